@@ -1,0 +1,22 @@
+//! The plain types that the crates above share. Contracts see each list type as the list of its items.
+#![tactic(auto)]
+
+mod access;
+mod call;
+mod entry;
+mod items;
+mod kid;
+mod media;
+mod sample;
+#[cfg(test)]
+mod tests;
+
+pub use access::{Capabilities, Capability, Config, Configs, Need, Texts};
+pub use call::{AppCall, DomError, Effect, Effects, Event, Settled};
+pub use entry::{Entry, Verdict};
+pub use items::{Bytes, Copies, Items};
+pub use kid::{KeyBytes, KeyId, KeyIdFault, KeyPairs, Kids, Status, StatusList};
+pub use media::{
+    Fragment, Fragments, InitData, InitKind, Inits, Media, Parts, TrackIds, TrackPart,
+};
+pub use sample::{EncSample, Iv, IvSizes, Protect, Samples, Scheme, Sub, Subs};
