@@ -1,5 +1,5 @@
 -- Laws of the field.
-use Rattle.std.proofs.Common.{◌≡◌, ℕ, ◌*◌, ◌+◌, ◌-◌, ◌%◌, ◌<◌, ◌≤◌, nat_lt, bit_xor, bit_and, refl, arith, subst, zero, suc, ap, ◌∙◌}
+use Rattle.std.proofs.Common.{◌≡◌, ℕ, ◌*◌, ◌+◌, ◌-◌, ◌%◌, ◌<◌, ◌≤◌, bit_xor, bit_and, refl, arith, subst, zero, suc}
 use Rattle.std.specs.Int.Bits.{xor_zero_r, xor_zero_l}
 use Rattle.std.proofs.Math.Nat.{zero-mul, one-mul}
 use Rattle.aes128.proofs.Below.{all_below, same_below}

@@ -1,7 +1,7 @@
 -- Products are additive, and so is the product of a row and a column.
-use Rattle.std.proofs.Common.{◌≡◌, ℕ, zero, suc, ◌+◌, ◌-◌, ◌*◌, ◌/◌, ◌%◌, ◌^◌, ◌<◌, ◌≤◌, nat_lt, Bool, true, false, bit_xor, refl, arith, ◌∙◌, sym, ap, inl, inr, ltb-true, lt-ltb, le-ltb, ◌⊎◌}
+use Rattle.std.proofs.Common.{◌≡◌, ℕ, zero, suc, ◌+◌, ◌*◌, ◌/◌, ◌%◌, ◌<◌, nat_lt, true, false, bit_xor, refl, arith, ◌∙◌, sym, ap, inl, inr, ltb-true, lt-ltb, le-ltb, ◌⊎◌}
 use Rattle.std.proofs.lemmas.Bool.{cases_lt}
-use Rattle.std.specs.Int.Bits.{xor_block, xor_shr, xor_lt, xor_comm, xor_assoc, xor_zero_r, xor_zero_l}
+use Rattle.std.specs.Int.Bits.{xor_block, xor_shr, xor_lt, xor_comm, xor_assoc, xor_zero_r}
 use Rattle.std.proofs.Math.Nat.{zero-mul, one-mul}
 use Rattle.aes128.specs.Field.{times_x, product, times}
 use Rattle.aes128.specs.Cipher.{combined}

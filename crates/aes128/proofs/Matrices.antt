@@ -1,5 +1,5 @@
 -- The matrices of MixColumns and InvMixColumns undo each other.
-use Rattle.std.proofs.Common.{◌≡◌, ℕ, ◌+◌, ◌%◌, ◌<◌, List, bit_xor, refl, arith, ◌∙◌, true, eqb}
+use Rattle.std.proofs.Common.{◌≡◌, ℕ, ◌<◌, List, bit_xor, refl, arith, ◌∙◌, true, eqb}
 use Rattle.std.specs.Int.Bits.{xor_zero_r, xor_zero_l}
 use Rattle.aes128.specs.Bytes.{AreBytes}
 use Rattle.aes128.specs.Field.{product, times}
@@ -12,7 +12,7 @@ use Rattle.aes128.proofs.Linear.{combined-lt, combined_xor}
 -- a map of a column to a byte that takes sums to sums
 record IsLinear (m : ℕ → ℕ → ℕ → ℕ → ℕ) : Type 0 where
   sums : (a b c d e f g h : ℕ) → a < 256 → b < 256 → c < 256 → d < 256 → e < 256 → f < 256 → g < 256 → h < 256
-    → m (bit_xor a e) (bit_xor b f) (bit_xor c g) (bit_xor d h) ≡ bit_xor (m a b c d) (m e f g h)
+      → m (bit_xor a e) (bit_xor b f) (bit_xor c g) (bit_xor d h) ≡ bit_xor (m a b c d) (m e f g h)
   bytes : (a b c d : ℕ) → a < 256 → b < 256 → c < 256 → d < 256 → m a b c d < 256
 
 row_linear : (k0 k1 k2 k3 : ℕ) → IsLinear (combined k0 k1 k2 k3)

@@ -1,5 +1,5 @@
 -- The tables, computed.
-use Rattle.std.proofs.Common.{◌≡◌, map, refl, sym}
+use Rattle.std.proofs.Common.{◌≡◌, map, refl}
 use Rattle.std.specs.List.{range_with_len}
 use Rattle.aes128.specs.Field.{product, times}
 use Rattle.aes128.specs.Sbox.{inverse, sub_byte, inv_sub_byte}

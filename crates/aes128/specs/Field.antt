@@ -1,6 +1,6 @@
 -- The field GF(2^8) (FIPS 197, section 4). An element is a byte, whose bits are the coefficients of a
 -- polynomial over {0, 1}.
-use Rattle.std.specs.Prelude.{ℕ, zero, suc, ◌+◌, ◌*◌, ◌/◌, ◌%◌, nat_lt, bit_xor, if◌then◌else◌}
+use Rattle.std.specs.Prelude.{ℕ, zero, suc, ◌*◌, ◌/◌, ◌%◌, nat_lt, bit_xor, if◌then◌else◌}
 
 -- x · b modulo x^8 + x^4 + x^3 + x + 1, whose bits are 0x11b (4.2)
 abbrev pub times_x : ℕ → ℕ

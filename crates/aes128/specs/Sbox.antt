@@ -1,5 +1,5 @@
 -- The S-box and its inverse (FIPS 197, sections 5.1.1 and 5.3.2), as formulas.
-use Rattle.std.specs.Prelude.{ℕ, ◌+◌, ◌*◌, ◌^◌, ◌%◌, find, unwrap_or, ◌==◌}
+use Rattle.std.specs.Prelude.{ℕ, ◌+◌, ◌*◌, ◌%◌, find, unwrap_or, ◌==◌}
 use Rattle.std.specs.List.{range_with_len}
 use Rattle.std.specs.Int.{bit_at}
 use Rattle.aes128.specs.Field.{times}

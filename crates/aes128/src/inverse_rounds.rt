@@ -2,15 +2,16 @@
 
 ghost use Rattle.std.specs.Prelude.{◌≡◌, ◌∷◌, []};
 ghost use Rattle.aes128.specs.Field.{times};
-ghost use Rattle.aes128.specs.Cipher.{combined};
+ghost use Rattle.aes128.specs.Cipher.{combined, add_round_key};
 ghost use Rattle.aes128.specs.InverseCipher.{inv_sub_bytes, inv_shift_rows, inv_mix_columns};
 
 use crate::field::times_x;
+use crate::rounds::add_round_key;
 use crate::sbox::inv_sub_byte;
 
 #[inline(always)]
 #[tactic(auto, unfolding(crate::specs::InverseCipher::inv_sub_bytes))]
-pub(crate) fn inv_sub_bytes(s: [u8; 16]) -> [u8; 16]
+fn inv_sub_bytes(s: [u8; 16]) -> [u8; 16]
     ensures { result ≡ inv_sub_bytes s }
 {
     [
@@ -35,7 +36,7 @@ pub(crate) fn inv_sub_bytes(s: [u8; 16]) -> [u8; 16]
 
 #[inline(always)]
 #[tactic(auto, unfolding(crate::specs::InverseCipher::inv_shift_rows))]
-pub(crate) fn inv_shift_rows(s: [u8; 16]) -> [u8; 16]
+fn inv_shift_rows(s: [u8; 16]) -> [u8; 16]
     ensures { result ≡ inv_shift_rows s }
 {
     [
@@ -74,7 +75,7 @@ fn inv_mix_column(a: u8, b: u8, c: u8, d: u8) -> [u8; 4]
 
 #[inline(always)]
 #[tactic(auto, unfolding(crate::specs::InverseCipher::inv_mix_columns))]
-pub(crate) fn inv_mix_columns(s: [u8; 16]) -> [u8; 16]
+fn inv_mix_columns(s: [u8; 16]) -> [u8; 16]
     ensures { result ≡ inv_mix_columns s }
 {
     let [a0, a1, a2, a3] = inv_mix_column(s[0], s[1], s[2], s[3]);
@@ -84,4 +85,20 @@ pub(crate) fn inv_mix_columns(s: [u8; 16]) -> [u8; 16]
     [
         a0, a1, a2, a3, b0, b1, b2, b3, c0, c1, c2, c3, d0, d1, d2, d3,
     ]
+}
+
+/// A round of the inverse cipher but the last.
+#[inline(always)]
+pub(crate) fn inv_round(s: [u8; 16], k: [u8; 16]) -> [u8; 16]
+    ensures { result ≡ inv_mix_columns (add_round_key (inv_sub_bytes (inv_shift_rows s)) k) }
+{
+    inv_mix_columns(add_round_key(inv_sub_bytes(inv_shift_rows(s)), k))
+}
+
+/// The last round of the inverse cipher, which mixes no columns.
+#[inline(always)]
+pub(crate) fn inv_last_round(s: [u8; 16], k: [u8; 16]) -> [u8; 16]
+    ensures { result ≡ add_round_key (inv_sub_bytes (inv_shift_rows s)) k }
+{
+    add_round_key(inv_sub_bytes(inv_shift_rows(s)), k)
 }

@@ -3,9 +3,8 @@
 ghost use Rattle.std.specs.Prelude.{◌≡◌};
 ghost use Rattle.aes128.specs.KeyExpansion.{next_key};
 
-use std::marker::Model;
-
 use crate::sbox::sub_byte;
+use std::marker::Model;
 
 // The round key after `k`.
 #[inline(always)]
@@ -56,6 +55,7 @@ impl Model for RoundKeys {
 }
 
 /// The round keys of a key: KeyExpansion.
+#[tactic(auto, unfolding(crate::specs::KeyExpansion::round_constant, crate::specs::KeyExpansion::round_key, crate::specs::KeyExpansion::round_keys))]
 pub fn expand(key: [u8; 16]) -> RoundKeys
     ensures { result ≡ key }
 {

@@ -8,7 +8,7 @@ use crate::sbox::sub_byte;
 
 #[inline(always)]
 #[tactic(auto, unfolding(crate::specs::Cipher::sub_bytes))]
-pub(crate) fn sub_bytes(s: [u8; 16]) -> [u8; 16]
+fn sub_bytes(s: [u8; 16]) -> [u8; 16]
     ensures { result ≡ sub_bytes s }
 {
     [
@@ -33,7 +33,7 @@ pub(crate) fn sub_bytes(s: [u8; 16]) -> [u8; 16]
 
 #[inline(always)]
 #[tactic(auto, unfolding(crate::specs::Cipher::shift_rows))]
-pub(crate) fn shift_rows(s: [u8; 16]) -> [u8; 16]
+fn shift_rows(s: [u8; 16]) -> [u8; 16]
     ensures { result ≡ shift_rows s }
 {
     [
@@ -84,7 +84,7 @@ fn mix_column(a: u8, b: u8, c: u8, d: u8) -> [u8; 4]
 
 #[inline(always)]
 #[tactic(auto, unfolding(crate::specs::Cipher::mix_columns))]
-pub(crate) fn mix_columns(s: [u8; 16]) -> [u8; 16]
+fn mix_columns(s: [u8; 16]) -> [u8; 16]
     ensures { result ≡ mix_columns s }
 {
     let [a0, a1, a2, a3] = mix_column(s[0], s[1], s[2], s[3]);
@@ -94,4 +94,20 @@ pub(crate) fn mix_columns(s: [u8; 16]) -> [u8; 16]
     [
         a0, a1, a2, a3, b0, b1, b2, b3, c0, c1, c2, c3, d0, d1, d2, d3,
     ]
+}
+
+/// A round but the last.
+#[inline(always)]
+pub(crate) fn round(s: [u8; 16], k: [u8; 16]) -> [u8; 16]
+    ensures { result ≡ add_round_key (mix_columns (shift_rows (sub_bytes s))) k }
+{
+    add_round_key(mix_columns(shift_rows(sub_bytes(s))), k)
+}
+
+/// The last round, which mixes no columns.
+#[inline(always)]
+pub(crate) fn last_round(s: [u8; 16], k: [u8; 16]) -> [u8; 16]
+    ensures { result ≡ add_round_key (shift_rows (sub_bytes s)) k }
+{
+    add_round_key(shift_rows(sub_bytes(s)), k)
 }

@@ -1,4 +1,4 @@
-use Rattle.std.proofs.Common.{arith, sym}
+use Rattle.std.proofs.Common.{arith}
 use Rattle.aes128.specs.declared.sbox.TheConstants.{SBOX}
 use Rattle.aes128.specs.Sbox.{sub_byte}
 use Rattle.aes128.proofs.Below.{row_of}
