@@ -58,80 +58,43 @@ mod tests {
 
     #[test]
     fn standard_blocks(rt: HostRuntime) {
-        // Key, plaintext and ciphertext of FIPS 197, appendix B and C.1, and of SP 800-38A, F.1.1.
-        let blocks = [
-            [
-                [
-                    0x2b, 0x7e, 0x15, 0x16, 0x28, 0xae, 0xd2, 0xa6, 0xab, 0xf7, 0x15, 0x88, 0x09,
-                    0xcf, 0x4f, 0x3c,
-                ],
-                [
-                    0x32, 0x43, 0xf6, 0xa8, 0x88, 0x5a, 0x30, 0x8d, 0x31, 0x31, 0x98, 0xa2, 0xe0,
-                    0x37, 0x07, 0x34,
-                ],
-                [
-                    0x39, 0x25, 0x84, 0x1d, 0x02, 0xdc, 0x09, 0xfb, 0xdc, 0x11, 0x85, 0x97, 0x19,
-                    0x6a, 0x0b, 0x32,
-                ],
-            ],
-            [
-                [
-                    0x00, 0x01, 0x02, 0x03, 0x04, 0x05, 0x06, 0x07, 0x08, 0x09, 0x0a, 0x0b, 0x0c,
-                    0x0d, 0x0e, 0x0f,
-                ],
-                [
-                    0x00, 0x11, 0x22, 0x33, 0x44, 0x55, 0x66, 0x77, 0x88, 0x99, 0xaa, 0xbb, 0xcc,
-                    0xdd, 0xee, 0xff,
-                ],
-                [
-                    0x69, 0xc4, 0xe0, 0xd8, 0x6a, 0x7b, 0x04, 0x30, 0xd8, 0xcd, 0xb7, 0x80, 0x70,
-                    0xb4, 0xc5, 0x5a,
-                ],
-            ],
-            [
-                [
-                    0x2b, 0x7e, 0x15, 0x16, 0x28, 0xae, 0xd2, 0xa6, 0xab, 0xf7, 0x15, 0x88, 0x09,
-                    0xcf, 0x4f, 0x3c,
-                ],
-                [
-                    0x6b, 0xc1, 0xbe, 0xe2, 0x2e, 0x40, 0x9f, 0x96, 0xe9, 0x3d, 0x7e, 0x11, 0x73,
-                    0x93, 0x17, 0x2a,
-                ],
-                [
-                    0x3a, 0xd7, 0x7b, 0xb4, 0x0d, 0x7a, 0x36, 0x60, 0xa8, 0x9e, 0xca, 0xf3, 0x24,
-                    0x66, 0xef, 0x97,
-                ],
-            ],
+        // Key, plaintext and ciphertext of FIPS 197, appendices B and C.1, and of SP 800-38A, F.1.1.
+        let blocks: [(u128, u128, u128); 3] = [
+            (
+                0x2b7e151628aed2a6abf7158809cf4f3c,
+                0x3243f6a8885a308d313198a2e0370734,
+                0x3925841d02dc09fbdc118597196a0b32,
+            ),
+            (
+                0x000102030405060708090a0b0c0d0e0f,
+                0x00112233445566778899aabbccddeeff,
+                0x69c4e0d86a7b0430d8cdb78070b4c55a,
+            ),
+            (
+                0x2b7e151628aed2a6abf7158809cf4f3c,
+                0x6bc1bee22e409f96e93d7e117393172a,
+                0x3ad77bb40d7a3660a89ecaf32466ef97,
+            ),
         ];
-        for [key, plain, secret] in blocks {
-            let keys = expand(key);
-            assert_eq!(rt; encrypt_block(&keys, plain).as_slice(), secret.as_slice());
-            assert_eq!(rt; decrypt_block(&keys, secret).as_slice(), plain.as_slice());
+        for (key, plain, secret) in blocks {
+            let keys = expand(key.to_be_bytes());
+            let sealed = encrypt_block(&keys, plain.to_be_bytes());
+            assert_eq!(rt; u128::from_be_bytes(sealed), secret);
+            let opened = decrypt_block(&keys, secret.to_be_bytes());
+            assert_eq!(rt; u128::from_be_bytes(opened), plain);
         }
     }
 
     #[test]
     fn counter_block(rt: HostRuntime) {
-        // SP 800-38A, F.5.1: the block of the first counter is added to the first plaintext.
-        let keys = expand([
-            0x2b, 0x7e, 0x15, 0x16, 0x28, 0xae, 0xd2, 0xa6, 0xab, 0xf7, 0x15, 0x88, 0x09, 0xcf,
-            0x4f, 0x3c,
-        ]);
-        let counter = [
-            0xf0, 0xf1, 0xf2, 0xf3, 0xf4, 0xf5, 0xf6, 0xf7, 0xf8, 0xf9, 0xfa, 0xfb, 0xfc, 0xfd,
-            0xfe, 0xff,
-        ];
-        let plain = [
-            0x6b, 0xc1, 0xbe, 0xe2, 0x2e, 0x40, 0x9f, 0x96, 0xe9, 0x3d, 0x7e, 0x11, 0x73, 0x93,
-            0x17, 0x2a,
-        ];
-        let secret = [
-            0x87, 0x4d, 0x61, 0x91, 0xb6, 0x20, 0xe3, 0x26, 0x1b, 0xef, 0x68, 0x64, 0x99, 0x0d,
-            0xb6, 0xce,
-        ];
-        let stream = encrypt_block(&keys, counter);
-        for i in 0..16 {
-            assert_eq!(rt; stream[i] ^ plain[i], secret[i]);
-        }
+        // SP 800-38A, F.5.1: the first counter block, enciphered, is added to the first plaintext.
+        let key: u128 = 0x2b7e151628aed2a6abf7158809cf4f3c;
+        let counter: u128 = 0xf0f1f2f3f4f5f6f7f8f9fafbfcfdfeff;
+        let plain: u128 = 0x6bc1bee22e409f96e93d7e117393172a;
+        let stream = encrypt_block(&expand(key.to_be_bytes()), counter.to_be_bytes());
+        assert_eq!(rt;
+            u128::from_be_bytes(stream) ^ plain,
+            0x874d6191b620e3261bef6864990db6ce
+        );
     }
 }
