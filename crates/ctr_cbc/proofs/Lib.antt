@@ -1,0 +1,4 @@
+pub mod BlockLemmas
+pub mod StreamLemmas
+pub mod ChainLemmas
+pub mod JoinLemmas
