@@ -1,7 +1,7 @@
 -- The bytes of blocks, and blocks of a list that was overwritten at one of them.
 use Rattle.std.proofs.Common.{◌≡◌, ℕ, ◌+◌, ◌-◌, ◌*◌, ◌<◌, ◌≤◌, List, length, get_or, drop, bit_xor, sym, ap, ◌∙◌, arith, get_or-take, get_or-drop}
 use Rattle.std.proofs.lemmas.List.{drop-take, drop-drop}
-use Rattle.std.proofs.lemmas.List.FromFn.{get_or-map-range_with_len}
+use Rattle.std.proofs.lemmas.List.FromFn.{get_or-map-range_with_len, length-map-range_with_len}
 use Rattle.std.proofs.lemmas.Slice.{take-put_mid_below, drop-put_mid, between-put_mid}
 use borrow.Rule.Slice.PartMut.{put_mid}
 use Rattle.ctr_cbc.specs.Blocks.{block, exclusive_or}
@@ -12,6 +12,10 @@ byte_of_block bytes r i lt = get_or-take 16 (drop (r * 16) bytes) i 0 lt ∙ get
 pub byte_of_xor : (a b : List ℕ) (i : ℕ) → i < 16 → get_or (exclusive_or a b) i 0 ≡ bit_xor (get_or a i 0) (get_or b i 0)
 unfolding exclusive_or
 byte_of_xor a b i lt = get_or-map-range_with_len (λ k. bit_xor (get_or a k 0) (get_or b k 0)) 0 16 i i 0 lt (omega arith)
+
+pub length_of_xor : (a b : List ℕ) → length (exclusive_or a b) ≡ 16
+unfolding exclusive_or
+length_of_xor a b = length-map-range_with_len (λ k. bit_xor (get_or a k 0) (get_or b k 0)) 0 16
 
 pub block_kept : (q a : ℕ) (xs ys : List ℕ) → q * 16 + 16 ≤ a → a ≤ length xs → block (put_mid a 16 xs ys) q ≡ block xs q
 block_kept q a xs ys low le =

@@ -2,3 +2,4 @@ pub mod BlockLemmas
 pub mod StreamLemmas
 pub mod ChainLemmas
 pub mod JoinLemmas
+pub mod BackLemmas

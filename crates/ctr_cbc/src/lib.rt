@@ -8,7 +8,7 @@ mod law;
 
 pub use chain::{cbc_decrypt, cbc_encrypt};
 pub use counter::ctr_apply;
-pub use law::{block_bytes_law, joined_chain_law, short_iv_law};
+pub use law::{block_bytes_law, joined_chain_law, opened_again_law, short_iv_law};
 
 #[cfg(test)]
 mod tests;
