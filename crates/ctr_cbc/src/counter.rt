@@ -35,6 +35,7 @@ fn add_stream(bytes: &mut [u8], stream: &[u8])
     }
 }
 
+// Adds a part of the key stream to bytes, one by one.
 fn add_bytes(bytes: &mut [u8], stream: &[u8])
     requires { length bytes.old ≤ length stream.now }
     ensures { EachIndex bytes.old (λ j. slice_index bytes.new j
