@@ -1,5 +1,5 @@
 -- What is known once the lock is closed with a pass that has all parts.
-use Rattle.std.proofs.Common.{◌≡◌, ℕ, ◌^◌, ◌≤◌, ◌≢◌, List, [], ◌∷◌, length, inl, inr, sym, refl, ap, ◌∙◌, subst, arith, Option, Some, None}
+use Rattle.std.proofs.Common.{◌≡◌, ℕ, ◌^◌, ◌≢◌, List, [], ◌∷◌, length, inl, inr, sym, ap, ◌∙◌, subst, arith, Option, Some, None}
 use mathlib.Core.Option.{some, some-injective}
 use mathlib.Core.Option as maybe
 use native.Mathlib.Decide.{ℕ_discrete}

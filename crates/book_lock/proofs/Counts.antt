@@ -1,5 +1,5 @@
 -- How often a place stands in a list of places.
-use Rattle.std.proofs.Common.{◌≡◌, ℕ, ◌+◌, ◌<◌, ◌≤◌, ◌==◌, ◌≢◌, nat_le, cond, if◌then◌else◌, Bool, List, [], ◌∷◌, ◌++◌, refl, sym, ap, ◌∙◌, subst, arith, eq-eqb, ne_eqb, lt_of_not-le}
+use Rattle.std.proofs.Common.{◌≡◌, ℕ, ◌+◌, ◌<◌, ◌≤◌, ◌==◌, ◌≢◌, cond, Bool, List, [], ◌∷◌, ◌++◌, refl, sym, ap, arith, eq-eqb, ne_eqb, lt_of_not-le}
 use Rattle.std.proofs.lemmas.List.Sums.{sum_by-append}
 use Rattle.std.proofs.lemmas.Bool.Decides.{nat_tests}
 use native.Mathlib.Decide.{dec_le}
@@ -13,6 +13,10 @@ times_here p = ap (λ (b : Bool). 0 + cond {A = ℕ} b 1 0) (eq-eqb p p refl)
 
 pub times_other : (p q : ℕ) → p ≢ q → times p (q ∷ []) ≡ 0
 times_other p q ne = ap (λ (b : Bool). 0 + cond {A = ℕ} b 1 0) (ne_eqb q p (λ e. ne (sym e)))
+
+-- who adds a place has it
+pub times_last : (p : ℕ) (own : List ℕ) → 0 < times p (own ++ p ∷ [])
+times_last p own = omega (arith, times-append p own (p ∷ []), times_here p)
 
 pub once_at : (n p : ℕ) → p ≤ n → once_to p n ≡ 1
 once_at n p h = grind (arith, nat_tests)

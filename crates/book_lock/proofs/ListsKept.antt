@@ -1,15 +1,15 @@
 -- Each step keeps the rule of the list.
-use Rattle.std.proofs.Common.{◌≡◌, ℕ, ◌+◌, ◌%◌, ◌^◌, ◌≢◌, ltb, if◌then◌else◌, Bool, true, false, List, [], ◌∷◌, ◌++◌, length, get_or, set, sym, refl, ap, ◌∙◌, subst, arith, length-append, get_or-set_same, Option, Some}
+use Rattle.std.proofs.Common.{◌≡◌, ℕ, ◌+◌, ◌%◌, ◌^◌, ltb, if◌then◌else◌, Bool, true, false, List, [], ◌∷◌, ◌++◌, length, get_or, set, sym, refl, ap, ◌∙◌, subst, arith, length-append, get_or-set_same, Option, Some}
 use Rattle.std.proofs.Math.Nat.{mod-add-mod}
 use mathlib.Core.List.{IsPrefix}
 use mathlib.Core.Option.{some}
 use mathlib.Core.Option as maybe
 use lib.ListN.{get_elem?}
-use Rattle.atomic_table.specs.Table.{State, keeps, stepped, opening}
+use Rattle.atomic_table.specs.Table.{keeps, stepped, opening}
 use Rattle.book_lock.specs.declared.view.Phase.{Phase}
 use Rattle.book_lock.specs.declared.view.Phase.TheVariants.{Idle, Waiting, Turn, Counted}
 use Rattle.book_lock.specs.declared.view.View.{View}
-use Rattle.book_lock.specs.Views.{out, Holds, opened, waiting, turn, counted, idle, seen_after, left_of, right_of, both_of, spent_view}
+use Rattle.book_lock.specs.Views.{Holds, opened, waiting, turn, counted, idle, seen_after, left_of, right_of, both_of, spent_view}
 use Rattle.book_lock.specs.Tickets.{Tickets}
 use Rattle.book_lock.specs.Lists.{Saw, Listed}
 use Rattle.book_lock.proofs.Fronts.{prefix_self, prefix_is, prefix_more}

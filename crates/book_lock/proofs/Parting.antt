@@ -1,6 +1,5 @@
 -- What a split and a join ask of the table, and what a join learns.
-use Rattle.std.proofs.Common.{◌≡◌, ℕ, ◌+◌, ◌<◌, ◌≤◌, List, [], ◌∷◌, ◌++◌, length, set, sym, refl, ap, ◌∙◌, subst, arith}
-use mathlib.Core.List.{IsPrefix}
+use Rattle.std.proofs.Common.{◌≡◌, ℕ, ◌<◌, ◌≤◌, List, length, sym, refl, ◌∙◌, subst, arith}
 use mathlib.Core.Option as maybe
 use Rattle.atomic_table.specs.Table.{keeps, Allows, Splits, Joins}
 use Rattle.atomic_table.proofs.Lists.{set_else}
@@ -9,7 +8,7 @@ use Rattle.book_lock.specs.declared.view.View.{View}
 use Rattle.book_lock.specs.Views.{left_of, right_of, both_of, spent_view}
 use Rattle.book_lock.specs.Places.{times}
 use Rattle.book_lock.specs.Rule.{Rule}
-use Rattle.book_lock.specs.Steps.{Stand, IsLearned, learned}
+use Rattle.book_lock.specs.Steps.{Stand, learned}
 use Rattle.book_lock.proofs.Fronts.{prefix_shorter}
 use Rattle.book_lock.proofs.Sums.{sum_one}
 use Rattle.book_lock.proofs.Counts.{once_one}

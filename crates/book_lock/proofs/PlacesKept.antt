@@ -1,6 +1,5 @@
 -- Each step keeps the rule of the places.
-use Rattle.std.proofs.Common.{◌≡◌, ℕ, ◌+◌, ◌<◌, ◌≤◌, ◌≢◌, ◌⊎◌, List, [], ◌∷◌, ◌++◌, length, set, sym, refl, ap, ◌∙◌, subst, inl, inr, ⊎_elim, arith, length-append, lt_of_not-le}
-use Rattle.std.specs.Prelude.{sum_by}
+use Rattle.std.proofs.Common.{◌≡◌, ℕ, ◌+◌, ◌<◌, ◌≤◌, ◌⊎◌, List, [], ◌∷◌, ◌++◌, length, set, sym, ap, ◌∙◌, subst, inl, inr, ⊎_elim, arith, length-append, lt_of_not-le}
 use Rattle.std.proofs.lemmas.List.Sums.{sum_by_push}
 use mathlib.Core.List.{IsPrefix}
 use mathlib.Core.Option.{some, some-ne-none}
@@ -12,7 +11,7 @@ use Rattle.book_lock.specs.Views.{opened, counted, left_of, right_of, both_of, s
 use Rattle.book_lock.specs.Places.{times, once_to, Closed, Below, Owns, Owned}
 use Rattle.book_lock.proofs.Fronts.{prefix_length, long_left, long_right}
 use Rattle.book_lock.proofs.Sums.{each_set, each_snoc, first_only, at_inside, at_longer_one, sum_set, sum_two}
-use Rattle.book_lock.proofs.Counts.{times-append, times_here, times_other, once_at, once_above, once_one}
+use Rattle.book_lock.proofs.Counts.{times-append, times_here, times_other, times_last, once_at, once_above, once_one}
 
 abbrev pub owned_times : {E : Type 0} → ℕ → View E → ℕ
 owned_times p v = times p v.own
@@ -55,7 +54,7 @@ module _ {E : Type 0} (bound : E → maybe.Option ℕ) where
       let n : ℕ = length (cur ++ e ∷ []) in
       let long : n ≡ length cur + 1 = length-append cur (e ∷ []) in
       let own' : List ℕ = v.own ++ n ∷ [] in
-      let mine : 0 < times n own' = omega (arith, times-append n v.own (n ∷ []), times_here n) in record {
+      let mine : 0 < times n own' = times_last n v.own in record {
         below = λ p h. ⊎_elim (λ (old : 0 < times p v.own). omega (arith, k.below p old, prefix_length v.seen cur seen)) (λ (is : p ≡ n). omega arith) (has_counted v.own n p h);
         closed = λ i p x at b has. ⊎_elim
             (λ (there : get_elem? cur i ≡ some x). ⊎_elim

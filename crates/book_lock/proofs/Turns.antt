@@ -1,14 +1,14 @@
 -- What each step of a turn asks of the table: draw a ticket, look, count an entry, serve the next.
-use Rattle.std.proofs.Common.{◌≡◌, ℕ, ◌+◌, ◌%◌, ◌^◌, ◌<◌, ◌≤◌, ◌≢◌, Bool, List, [], ◌∷◌, ◌++◌, length, get_or, set, sym, refl, ap, ◌∙◌, subst, arith, eq-eqb, ne_eqb, get_or-set_other, Option, Some, None, MatchBool}
+use Rattle.std.proofs.Common.{◌≡◌, ℕ, ◌+◌, ◌%◌, ◌^◌, ◌<◌, ◌≢◌, Bool, List, [], ◌∷◌, ◌++◌, length, get_or, set, sym, refl, ap, ◌∙◌, subst, arith, eq-eqb, ne_eqb, get_or-set_other, Option, Some, None, MatchBool}
 use mathlib.Core.List.{IsPrefix}
 use mathlib.Core.Option.{none, some}
 use mathlib.Core.Option as maybe
 use native.Mathlib.Decide.{ℕ_discrete}
 use lib.ListN.{get_elem?}
-use Rattle.atomic_table.specs.Table.{State, Step, step, keeps, takes, gives, homes_after, Allows, opening, rest}
+use Rattle.atomic_table.specs.Table.{Step, step, keeps, takes, gives, homes_after, Allows, opening, rest}
 use Rattle.atomic_table.proofs.Lists.{set_again}
 use Rattle.book_lock.specs.declared.view.Phase.{Phase}
-use Rattle.book_lock.specs.declared.view.Phase.TheVariants.{Idle, Waiting, Turn, Counted}
+use Rattle.book_lock.specs.declared.view.Phase.TheVariants.{Idle, Waiting, Turn}
 use Rattle.book_lock.specs.declared.view.View.{View}
 use Rattle.book_lock.specs.Views.{Holds, opened, waiting, turn, counted, idle, seen_after}
 use Rattle.book_lock.specs.Places.{times, Closed, Below}

@@ -1,5 +1,5 @@
 -- What a seat knows, and what each step makes of it.
-use Rattle.std.specs.Prelude.{◌≡◌, ℕ, ◌+◌, ◌-◌, ◌^◌, if◌then◌else◌, ltb, List, [], ◌∷◌, ◌++◌, length}
+use Rattle.std.specs.Prelude.{ℕ, ◌+◌, ◌-◌, ◌^◌, if◌then◌else◌, ltb, List, [], ◌∷◌, ◌++◌, length}
 use Rattle.book_lock.specs.declared.view.Phase.{Phase}
 use Rattle.book_lock.specs.declared.view.Phase.TheVariants.{Idle, Waiting, Turn, Counted}
 use Rattle.book_lock.specs.declared.view.View.{View}

@@ -12,3 +12,6 @@ pub use book::Book;
 pub use hold::Hold;
 pub use lock::{BookLock, CloseBack, NewBack};
 pub use pass::Pass;
+
+#[cfg(test)]
+mod tests;

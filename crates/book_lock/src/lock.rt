@@ -14,6 +14,7 @@ use std::sync::Wait;
 use std::thread;
 
 /// A lock by tickets over a table of three words and one slot: the next ticket, the ticket that is served, the number of entries, and the book.
+#[derive(Drop)]
 pub struct BookLock<B: Book> {
     pub(crate) table: Table<Option<B>, View<B::Entry>, Snapshot<B>, Law<B>, Global>,
     ghost sized: { (table.shared.table_id.words ≡ 3) × (table.shared.table_id.slots ≡ 1) },
@@ -27,6 +28,7 @@ pub struct NewBack<B> {
 }
 
 /// There was no memory to close a lock. The lock and the pass come back.
+#[derive(Drop)]
 pub struct CloseBack<B: Book> {
     pub lock: BookLock<B>,
     pub pass: Pass<B>,

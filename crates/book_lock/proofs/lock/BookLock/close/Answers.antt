@@ -1,4 +1,3 @@
-use Rattle.std.proofs.Common.{rules}
 use Rattle.book_lock.proofs.Closing.{closes_with, closes_full}
 use Rattle.book_lock.proofs.lock.BookLock.close.Goals as goal
 

@@ -1,5 +1,4 @@
 use Rattle.std.proofs.Common.{rules, ap, ◌∙◌}
-use Rattle.book_lock.specs.Views.{both_of}
 use Rattle.book_lock.proofs.Parting.{joins, learns, once_after}
 use Rattle.book_lock.proofs.lock.BookLock.join.Goals as goal
 
