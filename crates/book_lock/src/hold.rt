@@ -43,12 +43,14 @@ impl<'a, B: Book> Hold<'a, B> {
 
     /// Puts the book back with one entry more, which becomes an own entry of the pass.
     pub fn put(self) -> Pass<B>
-        requires entry { (e : B.Entry) × (B.entries self.book ≡ taken self ++ e ∷ []) × ((p : ℕ) → B.bound e ≡ some p → 0 < times p (hold_own self)) }
+        requires entry { (e : B.Entry) × (B.entries self.book ≡ taken self ++ e ∷ [])
+            × ((p : ℕ) → B.bound e ≡ some p → 0 < times p (hold_own self)) }
         requires fixed { B.fixed self.book ≡ hold_fixed B.fixed self }
         ensures lock { IsPassOf self.entry.turn.lock.now result }
         ensures seen { seen result ≡ B.entries self.entry.book }
         ensures own { own result ≡ hold_own self.entry ++ length (B.entries self.entry.book) ∷ [] }
-        ensures kept { (parts result ≡ hold_parts self.entry) × (fixed_of result ≡ hold_fixed B.fixed self.entry) }
+        ensures parts { parts result ≡ hold_parts self.entry }
+        ensures fixed { fixed_of result ≡ hold_fixed B.fixed self.entry }
     {
         let Hold {
             turn,
@@ -69,7 +71,9 @@ impl<'a, B: Book> Hold<'a, B> {
         requires fixed { B.fixed self.book ≡ hold_fixed B.fixed self }
         ensures lock { IsPassOf self.entry.turn.lock.now result }
         ensures seen { seen result ≡ taken self.entry }
-        ensures kept { (own result ≡ hold_own self.entry) × (parts result ≡ hold_parts self.entry) × (fixed_of result ≡ hold_fixed B.fixed self.entry) }
+        ensures own { own result ≡ hold_own self.entry }
+        ensures parts { parts result ≡ hold_parts self.entry }
+        ensures fixed { fixed_of result ≡ hold_fixed B.fixed self.entry }
     {
         let Hold {
             turn,

@@ -95,8 +95,10 @@ impl<B: Book> BookLock<B> {
         requires lock { IsPassOf self.now pass.old }
         requires parts { 1 < parts pass.old }
         ensures lock { IsPassOf self.now pass.new × IsPassOf self.now result }
-        ensures kept { (seen pass.new ≡ seen pass.old) × (own pass.new ≡ own pass.old) × (fixed_of pass.new ≡ fixed_of pass.old) × (parts pass.new + 1 ≡ parts pass.old) }
-        ensures given { (seen result ≡ seen pass.old) × (own result ≡ []) × (fixed_of result ≡ fixed_of pass.old) × (parts result ≡ 1) }
+        ensures kept { (seen pass.new ≡ seen pass.old) × (own pass.new ≡ own pass.old)
+            × (fixed_of pass.new ≡ fixed_of pass.old) × (parts pass.new + 1 ≡ parts pass.old) }
+        ensures given { (seen result ≡ seen pass.old) × (own result ≡ [])
+            × (fixed_of result ≡ fixed_of pass.old) × (parts result ≡ 1) }
     {
         let seat = self.table.shared.split_seat::<Cut>(&mut pass.seat);
         Pass { seat }
@@ -110,7 +112,8 @@ impl<B: Book> BookLock<B> {
         ensures later { IsPrefix (seen pass.old) (seen pass.new) × IsPrefix (seen other) (seen pass.new) }
         ensures own { own pass.new ≡ own pass.old ++ own other }
         ensures once { (p : ℕ) → times p (own pass.new) ≤ 1 }
-        ensures kept { (parts pass.new ≡ parts pass.old + parts other) × (fixed_of pass.new ≡ fixed_of pass.old) }
+        ensures parts { parts pass.new ≡ parts pass.old + parts other }
+        ensures fixed { fixed_of pass.new ≡ fixed_of pass.old }
     {
         let seat = other.into_seat();
         self.table.shared.join_seat::<Glue>(&mut pass.seat, seat);
@@ -124,12 +127,15 @@ impl<B: Book> BookLock<B> {
         ensures lock { IsHoldOf self.now result }
         ensures book { B.entries result.book ≡ taken result }
         ensures later { IsPrefix (seen pass) (taken result) }
-        ensures fixed { (B.fixed result.book ≡ fixed_of pass) × (hold_fixed B.fixed result ≡ fixed_of pass) }
-        ensures own { (hold_own result ≡ own pass) × Closed B.bound (own pass) (taken result) }
+        ensures own { hold_own result ≡ own pass }
+        // Each entry that is bound to a place of the pass is an own entry of the pass.
+        ensures closed { Closed B.bound (own pass) (taken result) }
         ensures once { (p : ℕ) → times p (own pass) ≤ 1 }
         ensures below { (p : ℕ) → 0 < times p (own pass) → p ≤ length (seen pass) }
         ensures earlier { Below B.bound (taken result) }
         ensures parts { hold_parts result ≡ parts pass }
+        ensures fixed { B.fixed result.book ≡ fixed_of pass }
+        ensures still_fixed { hold_fixed B.fixed result ≡ fixed_of pass }
     {
         let mut seat = pass.into_seat();
         let ticket = self.table.shared.fetch_add::<Draw>(&mut seat, 0, 1);
@@ -156,6 +162,7 @@ impl<B: Book> BookLock<B> {
         // A close asks for no memory.
         ensures always { IsOk result }
         ensures list { IfOk result (λ b. B.entries b ≡ seen pass) }
+        // Each place from 0 to the end of the list is owned once.
         ensures own { IfOk result (λ _. (p : ℕ) → times p (own pass) ≡ once_to p (length (seen pass))) }
         ensures fixed { IfOk result (λ b. B.fixed b ≡ fixed_of pass) }
         ensures back { IfErr result (λ e. (e.lock ≡ self) × (e.pass ≡ pass)) }
