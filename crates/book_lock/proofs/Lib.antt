@@ -1,0 +1,10 @@
+pub mod Fronts
+pub mod Sums
+pub mod Counts
+pub mod TicketsKept
+pub mod ListsKept
+pub mod PlacesKept
+pub mod PartsKept
+pub mod Turns
+pub mod Parting
+pub mod Closing

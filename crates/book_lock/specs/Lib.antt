@@ -1,0 +1,9 @@
+pub mod Views
+pub mod Tickets
+pub mod Lists
+pub mod Places
+pub mod Parts
+pub mod Rule
+pub mod Steps
+pub mod Passes
+pub mod Lending
