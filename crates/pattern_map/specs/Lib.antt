@@ -1,0 +1,2 @@
+pub mod ByteClasses
+pub mod SampleFaults

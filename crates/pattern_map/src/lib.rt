@@ -1,0 +1,6 @@
+//! Which bytes of a sample are encrypted: subsamples and patterns (ISO/IEC 23001-7 sections 9.5 and 9.6).
+#![tactic(auto)]
+
+mod check;
+
+pub use check::{SampleFault, check_sample};
