@@ -1,1 +1,4 @@
-
+pub mod CountLemmas
+pub mod CoverLemmas
+pub mod SpotLemmas
+pub mod WalkLemmas

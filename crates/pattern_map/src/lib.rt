@@ -2,5 +2,10 @@
 #![tactic(auto)]
 
 mod check;
+mod part;
+mod range;
+mod walk;
 
 pub use check::{SampleFault, check_sample};
+pub use range::ByteRange;
+pub use walk::{RangeWalk, ranges};
