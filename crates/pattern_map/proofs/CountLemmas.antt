@@ -82,8 +82,8 @@ module _ (crypt skip : ℕ) (some : 0 < crypt) (more : 0 < skip) where
       let next : suc k * (crypt + skip) ≡ k * (crypt + skip) + crypt + skip = omega arith in
       let crypts : rank crypt skip (q + crypt) ≡ rank crypt skip q + crypt = rank_more k crypt (omega arith) in
       let skips : rank crypt skip (q + crypt + skip) ≡ rank crypt skip (q + crypt) = count_same (is_encrypted crypt skip) (q + crypt) skip (λ j low high.
-          let there : k * (crypt + skip) + (j - k * (crypt + skip)) ≡ j = omega arith in
-          rw there at (is_skip k (j - k * (crypt + skip)) (omega arith) (omega arith))) in
+      let there : k * (crypt + skip) + (j - k * (crypt + skip)) ≡ j = omega arith in
+      rw there at (is_skip k (j - k * (crypt + skip)) (omega arith) (omega arith))) in
       let sum : k * crypt + crypt ≡ suc k * crypt = omega arith in
       ap (rank crypt skip) next ∙ skips ∙ crypts ∙ ap (λ m. m + crypt) (rank_period k) ∙ sum
 

@@ -2,10 +2,14 @@
 #![tactic(auto)]
 
 mod check;
+mod law;
 mod part;
 mod range;
+#[cfg(test)]
+mod tests;
 mod walk;
 
 pub use check::{SampleFault, check_sample};
+pub use law::block_law;
 pub use range::ByteRange;
 pub use walk::{RangeWalk, ranges};

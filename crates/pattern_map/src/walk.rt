@@ -1,10 +1,10 @@
 // The ranges of a sample.
 ghost use Rattle.std.specs.Prelude.{◌≡◌, ◌+◌, ◌^◌, ◌<◌, ◌++◌, IsTrue, Some};
 ghost use Rattle.std.specs.Iterator.{YieldsFirst, item_count};
-ghost use Rattle.std.specs.List.{sum_by};
+ghost use Rattle.std.specs.List.{sum_by, flat_map};
 ghost use Rattle.eme_types.specs.WellFormed.{sub_length, pattern_fits, is_well_protected, is_well_formed};
 ghost use Rattle.pattern_map.specs.ByteClasses.{subsamples};
-ghost use Rattle.pattern_map.specs.Coverage.{CoverSample};
+ghost use Rattle.pattern_map.specs.Coverage.{CoverSample, places_of, encrypted_places};
 ghost use Rattle.pattern_map.specs.Walk.{part_ranges, ranges_from};
 
 use crate::part::{PartWalk, Pattern, walk_part};
@@ -95,7 +95,8 @@ fn walk_protected(protect: &Protect, size: usize) -> RangeWalk<'_>
 /// encrypted blocks, of which the first of each subsample is fresh. It takes no memory.
 pub fn ranges(sample: &EncSample) -> RangeWalk<'_>
     requires { IsTrue (is_well_formed sample.now) }
-    ensures { CoverSample sample.now result }
+    ensures joined { flat_map places_of result ≡ encrypted_places sample.now }
+    ensures cover { CoverSample sample.now result }
 {
     match &sample.protect {
         None => walk_from(Pattern::NONE, 0, &[]),
