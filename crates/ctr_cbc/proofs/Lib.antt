@@ -1,0 +1,5 @@
+pub mod BlockLemmas
+pub mod StreamLemmas
+pub mod ChainLemmas
+pub mod JoinLemmas
+pub mod BackLemmas
