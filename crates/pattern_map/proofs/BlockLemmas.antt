@@ -7,7 +7,7 @@ use Rattle.std.proofs.lemmas.List.Elements.{filter-append}
 use Rattle.eme_types.specs.declared.sample.Protect.{Protect}
 use Rattle.eme_types.specs.declared.sample.Scheme.{Scheme}
 use Rattle.eme_types.specs.declared.sample.Scheme.TheVariants.{Cenc, Cbcs}
-use Rattle.pattern_map.specs.ByteClasses.{ByteClass, Clear, Block, Spot, block_place, encrypted_blocks, is_encrypted, is_protected, protected_class, rank, spot_from, subsamples}
+use Rattle.pattern_map.specs.ByteClasses.{Clear, Block, Spot, block_place, encrypted_blocks, is_encrypted, is_protected, protected_class, rank, spot_from, subsamples}
 use Rattle.pattern_map.proofs.CountLemmas.{range_split}
 use Rattle.pattern_map.proofs.SpotLemmas.{spot_stands}
 

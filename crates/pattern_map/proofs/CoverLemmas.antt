@@ -1,24 +1,22 @@
 -- The ranges of a walk cover the bytes that are not clear.
-use Rattle.std.proofs.Common.{◌≡◌, ◌≢◌, ℕ, zero, suc, ◌+◌, ◌-◌, ◌*◌, ◌/◌, ◌%◌, ◌<◌, ◌≤◌, min, Bool, true, false, List, [], ◌∷◌, ◌++◌, length, refl, sym, ap, ◌∙◌, arith, subst, inl, inr, eqb, eqb-true, ltb-true, ne_eqb}
-use Rattle.std.specs.Prelude.{filter, slice_index, nat_lt, Option, Some, None, ◌&&◌, ◌==◌, if◌then◌else◌, IsTrue, is_some}
-use Rattle.std.specs.List.{range_with_len, sum_by}
-use Rattle.std.proofs.Math.Seq.{get_or-append_seam}
-use Rattle.std.proofs.lemmas.List.Elements.{filter-append}
+use Rattle.std.proofs.Common.{◌≡◌, ◌≢◌, ℕ, zero, suc, ◌+◌, ◌-◌, ◌*◌, ◌/◌, ◌%◌, ◌<◌, ◌≤◌, min, Bool, true, false, List, [], ◌∷◌, ◌++◌, length, refl, sym, ap, ◌∙◌, arith, subst, inl, inr, eqb, eqb-true, ne_eqb}
+use Rattle.std.specs.Prelude.{nat_lt, Option, Some, None, ◌&&◌, ◌==◌, if◌then◌else◌, IsTrue, is_some}
+use Rattle.std.specs.List.{sum_by}
 use Rattle.std.proofs.lemmas.Bool.{cases_lt, lt-ltb, le-ltb}
 use Rattle.std.proofs.lemmas.List.Sums.{sum_by-cons}
 use Rattle.pattern_map.specs.declared.range.ByteRange.{ByteRange}
-use Rattle.pattern_map.specs.ByteClasses.{ByteClass, Clear, Protected, Block, Spot, block_place, encrypted_blocks, is_encrypted, rank, block_class, class_in, is_protected, protected_class, spot_from, stream_class, subsamples}
-use Rattle.pattern_map.specs.Coverage.{is_clear, later, begins_chain, AreWhole, IsLongestIn, IsLongest, IsRange, Cover}
+use Rattle.pattern_map.specs.ByteClasses.{ByteClass, Clear, Protected, Block, Spot, is_encrypted, rank, block_class, class_in, is_protected, protected_class, spot_from, stream_class, subsamples}
+use Rattle.pattern_map.specs.Coverage.{is_clear, later, begins_chain, AreWhole, IsLongestIn, IsLongest, Cover}
 use Rattle.eme_types.specs.declared.sample.Protect.{Protect}
 use Rattle.eme_types.specs.declared.sample.Scheme.{Scheme}
 use Rattle.eme_types.specs.declared.sample.Scheme.TheVariants.{Cenc, Cbcs}
 use Rattle.eme_types.specs.declared.sample.Sub.{Sub}
 use Rattle.eme_types.specs.WellFormed.{is_covered, is_well_protected, pattern_fits, sub_length}
 use Rattle.pattern_map.specs.Walk.{runs_from, step_of, whole_blocks, part_ranges, ranges_from}
-use Rattle.pattern_map.proofs.CountLemmas.{count, count_more, count_same, is_crypt, range_split, is_skip, rank_of, rank_whole}
+use Rattle.pattern_map.proofs.CountLemmas.{count, count_more, count_same, is_crypt, is_skip, rank_of, rank_whole}
 use Rattle.pattern_map.proofs.BlockLemmas.{tested_block}
 use Rattle.pattern_map.proofs.SpotLemmas.{spot_clear, spot_part, spot_behind, spot_stands}
-use Rattle.pattern_map.proofs.WalkLemmas.{no_runs, runs_next, one_run}
+use Rattle.pattern_map.proofs.WalkLemmas.{no_runs, one_run}
 
 -- n bytes from a on, side by side in a stream or a chain
 pub record IsRun (class : ℕ → ByteClass) (a n : ℕ) (fresh : Bool) : Type 0 where

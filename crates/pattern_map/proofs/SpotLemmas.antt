@@ -1,6 +1,6 @@
 -- Where the bytes of subsamples stand.
 use Rattle.std.proofs.Common.{◌≡◌, ℕ, ◌+◌, ◌-◌, ◌*◌, ◌<◌, List, [], ◌∷◌, refl, sym, ◌∙◌, arith, inl, inr, suc, subst, ◌≤◌}
-use Rattle.std.specs.Prelude.{Option, Some, None}
+use Rattle.std.specs.Prelude.{Some, None}
 use Rattle.std.proofs.lemmas.Bool.{cases_lt, lt-ltb, le-ltb}
 use Rattle.eme_types.specs.declared.sample.Sub.{Sub}
 use Rattle.pattern_map.specs.ByteClasses.{Spot, spot_from, part_block, part_size}

@@ -1,5 +1,5 @@
 -- The runs of a walk, one turn at a time.
-use Rattle.std.proofs.Common.{◌≡◌, ℕ, zero, suc, ◌+◌, ◌-◌, ◌<◌, ◌≤◌, min, Bool, false, List, [], ◌∷◌, refl, sym, ap, ◌∙◌, arith, subst, Option, Some}
+use Rattle.std.proofs.Common.{◌≡◌, ℕ, zero, suc, ◌+◌, ◌-◌, ◌<◌, ◌≤◌, min, Bool, false, List, [], ◌∷◌, refl, sym, ap, ◌∙◌, arith, subst, Some}
 use Rattle.std.specs.Prelude.{⊤}
 use Rattle.std.specs.Iterator.{MakesProgress, item_count}
 use Rattle.pattern_map.specs.declared.range.ByteRange.{ByteRange}

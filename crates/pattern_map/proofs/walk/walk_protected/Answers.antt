@@ -1,4 +1,4 @@
-use Rattle.std.proofs.Common.{◌≡◌, ◌∙◌, sym}
+use Rattle.std.proofs.Common.{◌∙◌, sym}
 use Rattle.pattern_map.proofs.CoverLemmas.{walked_subs}
 use Rattle.pattern_map.proofs.walk.walk_protected.Goals as goal
 

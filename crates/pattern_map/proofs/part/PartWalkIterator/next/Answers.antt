@@ -1,4 +1,4 @@
-use Rattle.std.proofs.Common.{◌≡◌, ◌<◌, arith, sym, ◌∙◌}
+use Rattle.std.proofs.Common.{arith, sym, ◌∙◌}
 use Rattle.pattern_map.proofs.WalkLemmas.{no_runs, runs_next, progress}
 use Rattle.pattern_map.proofs.part.PartWalkIterator.next.Goals as goal
 
