@@ -1,5 +1,5 @@
 -- A sample of chained blocks that is opened run by run.
-use Rattle.std.proofs.Common.{◌≡◌, ℕ, zero, suc, ◌+◌, ◌-◌, ◌*◌, ◌/◌, ◌%◌, ◌<◌, ◌≤◌, Bool, true, false, List, [], ◌∷◌, length, get_or, take, drop, bit_xor, refl, sym, ap, ◌∙◌, arith, ◌⊎◌, eqb, eqb-true, inl, inr, length-take, length-drop, get_or-take, get_or-drop}
+use Rattle.std.proofs.Common.{◌≡◌, ℕ, zero, suc, ◌+◌, ◌-◌, ◌*◌, ◌/◌, ◌%◌, ◌<◌, ◌≤◌, Bool, true, false, List, [], ◌∷◌, length, get_or, take, drop, bit_xor, refl, sym, ap, ◌∙◌, arith, ◌⊎◌, eqb-true, inl, inr, length-take, length-drop, get_or-take, get_or-drop}
 use Rattle.std.specs.Prelude.{if◌then◌else◌, map, slice_index, Option, Some, None}
 use Rattle.std.specs.List.{range_with_len}
 use Rattle.std.proofs.lemmas.List.{ext_get_or}
@@ -11,10 +11,10 @@ use Rattle.aes128.specs.InverseCipher.{inv_cipher}
 use Rattle.ctr_cbc.specs.Blocks.{block, exclusive_or}
 use Rattle.ctr_cbc.specs.Chain.{block_before, opened_block}
 use Rattle.pattern_map.specs.declared.range.ByteRange.{ByteRange}
-use Rattle.pattern_map.specs.ByteClasses.{ByteClass, Clear, Protected, Block, Spot, block_class, block_place, is_encrypted, protected_class, rank, spot_from, subsamples}
-use Rattle.pattern_map.specs.Coverage.{is_clear, begins_chain, later, AreWhole}
+use Rattle.pattern_map.specs.ByteClasses.{ByteClass, Clear, Protected, Block, Spot, block_class, block_place, protected_class, spot_from, subsamples}
+use Rattle.pattern_map.specs.Coverage.{is_clear, later, AreWhole}
 use Rattle.sample_crypt.specs.Decryption.{iv_bytes, encrypted_block, chained_to}
-use Rattle.sample_crypt.proofs.Opening.{class_of, clear_byte, ToCome, Comes, Opened, opened_none, opened_more, opened_all, range_byte}
+use Rattle.sample_crypt.proofs.Opening.{class_of, clear_byte, ToCome, Opened, opened_none, opened_more, opened_all, range_byte}
 
 -- the classes of `cbcs` are of no key stream
 no_stream : (scheme : Scheme) (p : Protect) (size i n : ℕ) → scheme ≡ Cbcs → protected_class scheme p size i ≡ Protected n → ⊥
@@ -23,6 +23,7 @@ no_stream Cbcs p size i n e h = of_spot (spot_from 0 (subsamples p.subs size) i)
   of_test : (b : Bool) (s r place : ℕ) → (if b then Block s r place else Clear) ≡ Protected n → ⊥
   of_test true s r place h = cc
   of_test false s r place h = cc
+
   of_spot : (spot : Option Spot) → block_class p.crypt p.skip spot ≡ Protected n → ⊥
   of_spot None h = cc
   of_spot (Some x) h = of_test _ _ _ _ h
@@ -83,7 +84,6 @@ module _ (key : List ℕ) (p : Protect) (was before : List ℕ) (r : ByteRange) 
 
   module _ (law : (i s r place : ℕ) → protected_class p.scheme p (length was) i ≡ Block s r place → (i ≡ block_place p (length was) s r + place) × (place < 16))
       (s k : ℕ) (first : class_of p was r.from ≡ Block s k 0) where
-
     -- block i of the run is the encrypted block of its rank
     run_block : (i : ℕ) → i * 16 < r.to - r.from → block part i ≡ encrypted_block p was s (k + i)
     run_block i lt =
@@ -98,11 +98,11 @@ module _ (key : List ℕ) (p : Protect) (was before : List ℕ) (r : ByteRange) 
         let left : length (take 16 (drop (i * 16) part)) ≡ 16 = omega (arith, part_length, length-take 16 (drop (i * 16) part), length-drop (i * 16) part) in
         let right : length (take 16 (drop (r.from + i * 16) was)) ≡ 16 = omega (arith, length-take 16 (drop (r.from + i * 16) was), length-drop (r.from + i * 16) was) in
         rw at (ext_get_or 0 _ _ (left ∙ sym right) (λ m inside.
-          let there : r.from + (i * 16 + m) ≡ r.from + i * 16 + m = omega arith in
-          get_or-take 16 (drop (i * 16) part) m 0 (omega arith) ∙ get_or-drop (i * 16) part m 0
-          ∙ range_byte key p was now.start now.next r bytes (i * 16 + m) now.opened is (omega arith)
-          ∙ ap (λ x. get_or was x 0) there
-          ∙ sym (get_or-take 16 (drop (r.from + i * 16) was) m 0 (omega arith) ∙ get_or-drop (r.from + i * 16) was m 0)))
+        let there : r.from + (i * 16 + m) ≡ r.from + i * 16 + m = omega arith in
+        get_or-take 16 (drop (i * 16) part) m 0 (omega arith) ∙ get_or-drop (i * 16) part m 0
+        ∙ range_byte key p was now.start now.next r bytes (i * 16 + m) now.opened is (omega arith)
+        ∙ ap (λ x. get_or was x 0) there
+        ∙ sym (get_or-take 16 (drop (r.from + i * 16) was) m 0 (omega arith) ∙ get_or-drop (r.from + i * 16) was m 0)))
 
     -- what the run's first block is chained to
     first_chain : (iv chain : List ℕ) → iv_bytes p.iv ≡ iv → (r.fresh ≡ true → chain ≡ iv) → (r.fresh ≡ false → chain ≡ before) → chain ≡ chained_to p was s k
@@ -166,8 +166,8 @@ module _ (key : List ℕ) (p : Protect) (was before : List ℕ) (r : ByteRange) 
       let s = run.subsample in
       let k = run.first in
       let first = run.is_block in
-      let fresh : r.fresh ≡ true → chain ≡ iv = λ e. elim given [ | inl x ↦ x.1 | inr x ↦ let wrong = sym e ∙ x.0 in cc ] in
-      let on : r.fresh ≡ false → chain ≡ before = λ e. elim given [ | inl x ↦ let wrong = sym e ∙ x.0 in cc | inr x ↦ x.1 ] in
+      let fresh : r.fresh ≡ true → chain ≡ iv = λ e. elim given [ inl x ↦ x.1 | inr x ↦ let wrong = sym e ∙ x.0 in cc ] in
+      let on : r.fresh ≡ false → chain ≡ before = λ e. elim given [ inl x ↦ let wrong = sym e ∙ x.0 in cc | inr x ↦ x.1 ] in
       let chain_is = first_chain law s k first iv chain same fresh on in
       record {
         start = r.to;

@@ -1,5 +1,5 @@
 -- A sample that is opened range by range.
-use Rattle.std.proofs.Common.{◌≡◌, ℕ, suc, ◌+◌, ◌-◌, ◌<◌, ◌≤◌, Bool, false, List, [], ◌∷◌, length, get_or, take, drop, bit_xor, refl, sym, ap, ◌∙◌, arith, inl, inr, rules, get_or-take, get_or-drop}
+use Rattle.std.proofs.Common.{◌≡◌, ℕ, ◌+◌, ◌-◌, ◌<◌, ◌≤◌, List, [], length, get_or, take, drop, refl, sym, ◌∙◌, arith, inl, inr, rules, get_or-take, get_or-drop}
 use Rattle.std.specs.Prelude.{map, Option, Some}
 use borrow.Rule.Slice.PartMut.{put_mid}
 use Rattle.std.specs.List.{range_with_len}
@@ -8,7 +8,7 @@ use Rattle.std.proofs.lemmas.List.{places}
 use Rattle.std.proofs.lemmas.List.FromFn.{fill_by_all}
 use Rattle.eme_types.specs.declared.sample.Protect.{Protect}
 use Rattle.pattern_map.specs.declared.range.ByteRange.{ByteRange}
-use Rattle.pattern_map.specs.ByteClasses.{ByteClass, Clear, Protected, class_in, protected_class}
+use Rattle.pattern_map.specs.ByteClasses.{ByteClass, Protected, class_in, protected_class}
 use Rattle.pattern_map.specs.Coverage.{IsLongestIn, IsLongest, IsRange, Cover}
 use Rattle.sample_crypt.specs.Decryption.{opened_byte}
 
@@ -62,9 +62,9 @@ opened_more key p was start next r bytes ys so_far is len each =
       long = put_length r.from (r.to - r.from) bytes ys (omega arith) len ∙ long;
       below = λ i lt. elim (cases_lt i r.from) [
         | inl before ↦ put_before r.from (r.to - r.from) bytes ys i (omega arith) before ∙ elim (cases_lt i start) [
-            | inl done ↦ so_far.below i done
-            | inr left ↦ so_far.above i left ∙ rw (is.before i left before) refl
-          ]
+          | inl done ↦ so_far.below i done
+          | inr left ↦ so_far.above i left ∙ rw (is.before i left before) refl
+        ]
         | inr past ↦
             let there : r.from + (i - r.from) ≡ i = omega arith in
             put_inside r.from (r.to - r.from) bytes ys i (i - r.from) (omega arith) len (omega arith) (sym there) ∙ rw there at (each (i - r.from) (omega arith))
@@ -76,9 +76,9 @@ opened_more key p was start next r bytes ys so_far is len each =
 pub opened_all : (key : List ℕ) (p : Protect) (was : List ℕ) (start : ℕ) (next : ByteClass) (bytes : List ℕ)
     → Opened key p was start bytes → ToCome p was start next [] → bytes ≡ map (clear_byte key p was) (range_with_len 0 (length was))
 opened_all key p was start next bytes so_far clear = fill_by_all (clear_byte key p was) bytes (length was) 0 so_far.long (λ i lt. elim (cases_lt i start) [
-    | inl done ↦ so_far.below i done
-    | inr left ↦ so_far.above i left ∙ rw (clear i left lt) refl
-  ])
+  | inl done ↦ so_far.below i done
+  | inr left ↦ so_far.above i left ∙ rw (clear i left lt) refl
+])
 
 -- a byte of a range, as it is before
 pub range_byte : (key : List ℕ) (p : Protect) (was : List ℕ) (start : ℕ) (next : ByteClass) (r : ByteRange) (bytes : List ℕ) (j : ℕ)

@@ -1,5 +1,5 @@
 -- A sample in counter mode that is opened range by range.
-use Rattle.std.proofs.Common.{◌≡◌, ℕ, ◌+◌, ◌-◌, ◌<◌, ◌≤◌, ◌^◌, Bool, true, false, List, [], ◌∷◌, length, get_or, take, drop, bit_xor, refl, sym, ap, ◌∙◌, arith, length-take, length-drop}
+use Rattle.std.proofs.Common.{◌≡◌, ℕ, ◌+◌, ◌-◌, ◌<◌, ◌≤◌, Bool, true, false, List, [], ◌∷◌, length, get_or, take, drop, bit_xor, refl, ap, ◌∙◌, arith, length-take, length-drop}
 use Rattle.std.specs.Prelude.{if◌then◌else◌, map}
 use Rattle.std.specs.List.{range_with_len}
 use borrow.Rule.Slice.PartMut.{put_mid}
@@ -8,7 +8,7 @@ use Rattle.eme_types.specs.declared.sample.Scheme.{Scheme}
 use Rattle.eme_types.specs.declared.sample.Scheme.TheVariants.{Cenc, Cbcs}
 use Rattle.ctr_cbc.specs.KeyStream.{stream_byte}
 use Rattle.pattern_map.specs.declared.range.ByteRange.{ByteRange}
-use Rattle.pattern_map.specs.ByteClasses.{ByteClass, Clear, Protected, is_protected, protected_class, subsamples}
+use Rattle.pattern_map.specs.ByteClasses.{Clear, Protected, is_protected, protected_class, subsamples}
 use Rattle.pattern_map.specs.Coverage.{begins_chain, later}
 use Rattle.sample_crypt.specs.Decryption.{iv_bytes}
 use Rattle.sample_crypt.proofs.Opening.{class_of, clear_byte, ToCome, Opened, opened_none, opened_more, opened_all, range_byte}

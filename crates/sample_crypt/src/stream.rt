@@ -32,12 +32,7 @@ fn first_counter(iv: Iv) -> [u8; 16]
 }
 
 // Opens the protected ranges in place: one key stream over all of them.
-pub(crate) fn open_stream(
-    sample: &EncSample,
-    protect: &Protect,
-    keys: &RoundKeys,
-    bytes: &mut [u8],
-)
+pub(crate) fn open_stream(sample: &EncSample, protect: &Protect, keys: &RoundKeys, bytes: &mut [u8])
     requires formed { IsTrue (is_well_formed sample.now) }
     requires protected { sample.now.protect ≡ Some protect.now }
     requires scheme { protect.now.scheme ≡ Scheme.Cenc }

@@ -56,11 +56,19 @@ fn opened(alloc: Global, protect: Option<Protect>, bytes: Bytes) -> Result<Bytes
     }
 }
 
-fn joined(alloc: Global, parts: &[&[u8]]) -> Result<Bytes, Fail> {
-    let mut bytes = Bytes::new(alloc);
-    for part in parts {
-        bytes.extend_from_slice(part)?;
-    }
+// The first bytes clear, and two blocks behind them.
+fn behind_clear(alloc: Global, blocks: &[u8; 32]) -> Result<Bytes, Fail> {
+    let mut bytes = Bytes::from_slice(alloc, &[1, 2, 3])?;
+    bytes.extend_from_slice(blocks)?;
+    Ok(bytes)
+}
+
+// Two blocks with nine blocks of zeros between them and 7 bytes behind.
+fn spread(alloc: Global, blocks: &[u8; 32]) -> Result<Bytes, Fail> {
+    let mut bytes = Bytes::from_slice(alloc, &blocks[..16])?;
+    bytes.extend_from_slice(&[0; 144])?;
+    bytes.extend_from_slice(&blocks[16..])?;
+    bytes.extend_from_slice(&[0, 1, 2, 3, 4, 5, 6])?;
     Ok(bytes)
 }
 
@@ -177,18 +185,25 @@ const PARTIAL_ONLY: [u8; 18] = [
 #[test]
 fn blocks_of_the_standard(rt: HostRuntime) -> Result<(), Fail> {
     let alloc = rt.alloc();
-    let zeros = &[0; 144][..];
-    let tail = &[0, 1, 2, 3, 4, 5, 6][..];
-    for (scheme, iv, pattern, subs, bytes, found) in [
-        (Scheme::Cenc, COUNTER, (0, 0), &[][..], &[&CTR[..16]][..], &[&PLAIN[..16]][..]),
-        (Scheme::Cenc, COUNTER, (0, 0), &[(3, 10), (0, 22)], &[&tail[1..4], &CTR], &[&tail[1..4], &PLAIN]),
-        (Scheme::Cbcs, IV, (0, 0), &[], &[&CBC[..16]], &[&PLAIN[..16]]),
-        (Scheme::Cbcs, IV, (1, 9), &[(0, 183)], &[&CBC[..16], zeros, &CBC[16..], tail], &[&PLAIN[..16], zeros, &PLAIN[16..], tail]),
-    ] {
-        let protect = protect(alloc, scheme, long_iv(iv), pattern, subs)?;
-        let opened = opened(alloc, Some(protect), joined(alloc, bytes)?)?;
-        assert_eq!(rt; opened.as_slice(), joined(alloc, found)?.as_slice());
-    }
+    let stream = protect(alloc, Scheme::Cenc, long_iv(COUNTER), (0, 0), &[])?;
+    let one_block = opened(alloc, Some(stream), Bytes::from_slice(alloc, &CTR[..16])?)?;
+    assert_eq!(rt; one_block.as_slice(), &PLAIN[..16]);
+
+    let subs = [(3, 10), (0, 22)];
+    let stream = protect(alloc, Scheme::Cenc, long_iv(COUNTER), (0, 0), &subs)?;
+    let two_parts = opened(alloc, Some(stream), behind_clear(alloc, &CTR)?)?;
+    assert_eq!(rt;
+        two_parts.as_slice(),
+        behind_clear(alloc, &PLAIN)?.as_slice()
+    );
+
+    let chain = protect(alloc, Scheme::Cbcs, long_iv(IV), (0, 0), &[])?;
+    let one_block = opened(alloc, Some(chain), Bytes::from_slice(alloc, &CBC[..16])?)?;
+    assert_eq!(rt; one_block.as_slice(), &PLAIN[..16]);
+
+    let chain = protect(alloc, Scheme::Cbcs, long_iv(IV), (1, 9), &[(0, 183)])?;
+    let two_runs = opened(alloc, Some(chain), spread(alloc, &CBC)?)?;
+    assert_eq!(rt; two_runs.as_slice(), spread(alloc, &PLAIN)?.as_slice());
     Ok(())
 }
 
@@ -197,11 +212,35 @@ fn patterns_and_subsamples(rt: HostRuntime) -> Result<(), Fail> {
     let alloc = rt.alloc();
     let wrapping = long_iv(0x0001020304050607ffffffffffffffff);
     for (scheme, iv, pattern, subs, found) in [
-        (Scheme::Cenc, short_iv(), (0, 0), &[(5, 20), (0, 0), (3, 17), (2, 0)][..], &A_SHORT_IV_OVER_SUBSAMPLES[..]),
+        (
+            Scheme::Cenc,
+            short_iv(),
+            (0, 0),
+            &[(5, 20), (0, 0), (3, 17), (2, 0)][..],
+            &A_SHORT_IV_OVER_SUBSAMPLES[..],
+        ),
         (Scheme::Cenc, wrapping, (0, 0), &[], &A_COUNTER_THAT_WRAPS),
-        (Scheme::Cbcs, long_iv(IV), (1, 9), &[(9, 0), (1, 15), (3, 36), (0, 183)], &ONE_OF_TEN),
-        (Scheme::Cbcs, long_iv(IV), (5, 5), &[(2, 183), (0, 40)], &FIVE_OF_TEN),
-        (Scheme::Cbcs, long_iv(IV), (1, 0), &[(4, 37), (0, 16)], &NO_SKIP),
+        (
+            Scheme::Cbcs,
+            long_iv(IV),
+            (1, 9),
+            &[(9, 0), (1, 15), (3, 36), (0, 183)],
+            &ONE_OF_TEN,
+        ),
+        (
+            Scheme::Cbcs,
+            long_iv(IV),
+            (5, 5),
+            &[(2, 183), (0, 40)],
+            &FIVE_OF_TEN,
+        ),
+        (
+            Scheme::Cbcs,
+            long_iv(IV),
+            (1, 0),
+            &[(4, 37), (0, 16)],
+            &NO_SKIP,
+        ),
         (Scheme::Cbcs, long_iv(IV), (0, 0), &[], &NO_PATTERN),
         (Scheme::Cbcs, long_iv(IV), (2, 1), &[(4, 80)], &TWO_OF_THREE),
         (Scheme::Cbcs, long_iv(IV), (1, 9), &[(3, 15)], &PARTIAL_ONLY),
@@ -220,9 +259,9 @@ fn a_counter_wraps_to_the_block_of_the_short_iv(rt: HostRuntime) -> Result<(), F
     let alloc = rt.alloc();
     let wrapping = long_iv(0x0001020304050607ffffffffffffffff);
     let long = protect(alloc, Scheme::Cenc, wrapping, (0, 0), &[])?;
-    let two = opened(alloc, Some(long), joined(alloc, &[&CBC])?)?;
+    let two = opened(alloc, Some(long), Bytes::from_slice(alloc, &CBC)?)?;
     let short = protect(alloc, Scheme::Cenc, short_iv(), (0, 0), &[])?;
-    let one = opened(alloc, Some(short), joined(alloc, &[&CBC[16..]])?)?;
+    let one = opened(alloc, Some(short), Bytes::from_slice(alloc, &CBC[16..])?)?;
     assert_eq!(rt; two.as_slice().get(16..), Some(one.as_slice()));
     Ok(())
 }
@@ -230,7 +269,7 @@ fn a_counter_wraps_to_the_block_of_the_short_iv(rt: HostRuntime) -> Result<(), F
 #[test]
 fn a_clear_sample_is_its_own_decryption(rt: HostRuntime) -> Result<(), Fail> {
     let alloc = rt.alloc();
-    let opened = opened(alloc, None, joined(alloc, &[&CBC])?)?;
+    let opened = opened(alloc, None, Bytes::from_slice(alloc, &CBC)?)?;
     assert_eq!(rt; opened.as_slice(), &CBC[..]);
     Ok(())
 }

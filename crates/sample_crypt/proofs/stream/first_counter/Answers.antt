@@ -1,4 +1,3 @@
-use Rattle.std.proofs.Common.{◌≡◌}
 use Rattle.sample_crypt.proofs.stream.first_counter.Goals as goal
 
 pub returns-in-Eight : goal.returns-in-Eight
