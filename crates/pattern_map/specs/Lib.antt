@@ -1,0 +1,4 @@
+pub mod ByteClasses
+pub mod Coverage
+pub mod SampleFaults
+pub mod Walk
