@@ -1,0 +1,9 @@
+pub mod Again
+pub mod SeigAgain
+pub mod TencAgain
+pub mod SchmAgain
+pub mod AuxAgain
+pub mod GroupsAgain
+pub mod SencAgain
+pub mod Bounds
+pub mod Few

@@ -1,0 +1,245 @@
+use crate::{
+    ProtFault, ProtKind, Saio, Saiz, Sbgp, SbgpItem, Schm, Seig, Senc, SencItem, Sgpd, Tenc,
+    put_saio, put_saiz, put_sbgp, put_schm, put_senc, put_sgpd, put_tenc, read_saio, read_saiz,
+    read_sbgp, read_schm, read_senc, read_sgpd, read_tenc,
+};
+use eme_types::{Bytes, Items, Iv, IvSizes, Sub, Subs};
+use iso_boxes::{BoxRef, Boxes};
+use std::alloc::Global;
+use std::test::Fail;
+
+fn at(body: &[u8]) -> BoxRef<'_> {
+    BoxRef {
+        kind: *b"test",
+        place: 40,
+        body,
+        body_place: 48,
+    }
+}
+
+const KID: [u8; 16] = *b"\x10\x11\x12\x13\x14\x15\x16\x17\x18\x19\x1a\x1b\x1c\x1d\x1e\x1f";
+
+const IV: [u8; 16] = *b"\x00\x11\x22\x33\x44\x55\x66\x77\x88\x99\xaa\xbb\xcc\xdd\xee\xff";
+
+#[test]
+fn track_encryption_is_read(rt: HostRuntime) -> Result<(), Fail> {
+    let own = read_tenc(&at(
+        b"\0\0\0\0\0\0\x01\x08\x10\x11\x12\x13\x14\x15\x16\x17\x18\x19\x1a\x1b\x1c\x1d\x1e\x1f",
+    ));
+    let Ok(own) = own else {
+        assert!(rt; false, "IVs of their own");
+        return Ok(());
+    };
+    assert!(rt;
+        own == Tenc {
+            version: 0,
+            crypt: 0,
+            skip: 0,
+            protected: true,
+            iv_size: 8,
+            kid: KID,
+            constant: None
+        }
+    );
+    let shared = read_tenc(&at(
+        b"\x01\0\0\0\0\x19\x01\0\x10\x11\x12\x13\x14\x15\x16\x17\x18\x19\x1a\x1b\x1c\x1d\x1e\x1f\x10\x00\x11\x22\x33\x44\x55\x66\x77\x88\x99\xaa\xbb\xcc\xdd\xee\xff",
+    ));
+    let Ok(shared) = shared else {
+        assert!(rt; false, "a constant IV");
+        return Ok(());
+    };
+    let constant = Some(Iv::Sixteen(IV));
+    assert!(rt;
+        shared
+            == Tenc {
+                version: 1,
+                crypt: 1,
+                skip: 9,
+                protected: true,
+                iv_size: 0,
+                kid: KID,
+                constant
+            }
+    );
+    for (body, kind) in [
+        (&b"\0\0\0\0\0\0\x01\x07\x10\x11"[..], ProtKind::IvSize),
+        (&b"\0\0\0\0\0\0\x02\x07\x10\x11"[..], ProtKind::IsProtected),
+        (
+            &b"\x02\0\0\0\0\x19\x01\0\x10\x11\x12\x13\x14\x15\x16\x17\x18\x19\x1a\x1b\x1c\x1d\x1e\x1f\x00"[..],
+            ProtKind::IvSize,
+        ),
+        (
+            &b"\x02\0\0\0\0\x19\x01\0\x10\x11\x12\x13\x14\x15\x16\x17\x18\x19\x1a\x1b\x1c\x1d\x1e\x1f"[..],
+            ProtKind::Short,
+        ),
+        (&b""[..], ProtKind::Short),
+    ] {
+        let fault = ProtFault { place: 40, kind };
+        assert!(rt; read_tenc(&at(body)) == Err(fault), "{kind:?}");
+    }
+    Ok(())
+}
+
+fn kind_of<T: Drop>(answer: Result<T, ProtFault>) -> Option<ProtKind> {
+    match answer {
+        Ok(_) => None,
+        Err(fault) => Some(fault.kind),
+    }
+}
+
+#[test]
+fn first_broken_rules_are_refused(rt: HostRuntime) -> Result<(), Fail> {
+    let alloc = rt.alloc();
+    let mut two = IvSizes::new(alloc);
+    two.push(0)?;
+    two.push(16)?;
+    // a count that cannot be is never reserved
+    let endless = b"\0\0\0\0\xff\xff\xff\xff";
+    assert!(rt; kind_of(read_senc(alloc, &at(endless), &two)) == Some(ProtKind::CountDiffers));
+    assert!(rt;
+        kind_of(read_senc(alloc, &at(b"\0\0\0\x02\0\0\0\x02\0\0"), &two)) == Some(ProtKind::Short)
+    );
+    assert!(rt; kind_of(read_saio(alloc, &at(endless))) == Some(ProtKind::Short));
+    assert!(rt;
+        kind_of(read_saiz(alloc, &at(b"\0\0\0\0\0\xff\xff\xff\xff\x01"))) == Some(ProtKind::Short)
+    );
+    assert!(rt;
+        kind_of(read_sbgp(
+            alloc,
+            &at(b"\0\0\0\0seig\xff\xff\xff\xff\0\0\0\x01\0\0\0\x01")
+        )) == Some(ProtKind::Short)
+    );
+    assert!(rt; kind_of(read_sbgp(alloc, &at(b"\0\0\0\0roll"))) == None);
+    assert!(rt; kind_of(read_sgpd(alloc, &at(b"\x02\0\0\0roll"))) == None);
+    assert!(rt; kind_of(read_sgpd(alloc, &at(b"\x02\0\0\0seig"))) == Some(ProtKind::Version));
+    assert!(rt;
+        kind_of(read_sgpd(
+            alloc,
+            &at(b"\x01\0\0\0seig\0\0\0\x04\0\0\0\x02\0\0\x02\x10")
+        )) == Some(ProtKind::IsProtected)
+    );
+    assert!(rt;
+        kind_of(read_sgpd(
+            alloc,
+            &at(b"\x01\0\0\0seig\0\0\0\x04\0\0\0\x02\0\0\x01\x10")
+        )) == Some(ProtKind::Short)
+    );
+    assert!(rt; kind_of(read_schm(&at(b"\0\0\0\0cenc\0\x01\0"))) == Some(ProtKind::Short));
+    Ok(())
+}
+
+// The boxes of a fragment of two samples, the second protected by a group of its own.
+fn put_fragment(alloc: Global, out: &mut Bytes) -> Result<(), Fail> {
+    let tenc = Tenc {
+        version: 0,
+        crypt: 0,
+        skip: 0,
+        protected: false,
+        iv_size: 0,
+        kid: [0; 16],
+        constant: None,
+    };
+    put_tenc(alloc, out, &tenc)?;
+    put_schm(
+        alloc,
+        out,
+        &Schm {
+            kind: *b"cenc",
+            version: 65536,
+        },
+    )?;
+    let mut entries = Items::new(alloc);
+    entries.push(SbgpItem { count: 1, index: 0 })?;
+    entries.push(SbgpItem {
+        count: 1,
+        index: 0x10001,
+    })?;
+    put_sbgp(alloc, out, &Sbgp { entries })?;
+    let mut entries = Items::new(alloc);
+    entries.push(Seig {
+        crypt: 0,
+        skip: 0,
+        protected: true,
+        iv_size: 16,
+        kid: KID,
+        constant: None,
+    })?;
+    put_sgpd(alloc, out, &Sgpd { entries })?;
+    let mut subs = Subs::new(alloc);
+    subs.push(Sub { clear: 4, prot: 16 })?;
+    let mut items = Items::new(alloc);
+    items.push(SencItem {
+        iv: None,
+        subs: Subs::new(alloc),
+    })?;
+    items.push(SencItem {
+        iv: Some(Iv::Sixteen(IV)),
+        subs,
+    })?;
+    put_senc(alloc, out, &Senc { items, flag2: true })?;
+    let sizes = Bytes::from_slice(alloc, &[2, 24])?;
+    put_saiz(
+        alloc,
+        out,
+        &Saiz {
+            kind: None,
+            default_size: 0,
+            count: 2,
+            sizes,
+        },
+    )?;
+    let mut offsets = Items::new(alloc);
+    offsets.push(0x123456789)?;
+    put_saio(
+        alloc,
+        out,
+        &Saio {
+            kind: Some(*b"cenc"),
+            offsets,
+        },
+    )?;
+    Ok(())
+}
+
+#[test]
+fn boxes_are_written_byte_for_byte(rt: HostRuntime) -> Result<(), Fail> {
+    let mut out = Bytes::new(rt.alloc());
+    put_fragment(rt.alloc(), &mut out)?;
+    let expected =
+        b"\x00\x00\x00\x20tenc\x00\x00\x00\x00\x00\x00\x00\x00\x00\x00\x00\x00\x00\x00\x00\x00\x00\x00\x00\x00\x00\x00\x00\x00\
+        \x00\x00\x00\x14schm\x00\x00\x00\x00cenc\x00\x01\x00\x00\
+        \x00\x00\x00\x24sbgp\x00\x00\x00\x00seig\x00\x00\x00\x02\x00\x00\x00\x01\x00\x00\x00\x00\x00\x00\x00\x01\x00\x01\x00\x01\
+        \x00\x00\x00\x30sgpd\x01\x00\x00\x00seig\x00\x00\x00\x00\x00\x00\x00\x01\x00\x00\x00\x14\x00\x00\x01\x10\x10\x11\x12\x13\x14\x15\x16\x17\x18\x19\x1a\x1b\x1c\x1d\x1e\x1f\
+        \x00\x00\x00\x2asenc\x00\x00\x00\x02\x00\x00\x00\x02\x00\x00\x00\x11\x22\x33\x44\x55\x66\x77\x88\x99\xaa\xbb\xcc\xdd\xee\xff\x00\x01\x00\x04\x00\x00\x00\x10\
+        \x00\x00\x00\x13saiz\x00\x00\x00\x00\x00\x00\x00\x00\x02\x02\x18\
+        \x00\x00\x00\x20saio\x01\x00\x00\x01cenc\x00\x00\x00\x00\x00\x00\x00\x01\x00\x00\x00\x01\x23\x45\x67\x89";
+    assert_eq!(rt; out.as_slice(), expected.as_slice());
+    Ok(())
+}
+
+#[test]
+fn written_boxes_are_read_again(rt: HostRuntime) -> Result<(), Fail> {
+    let alloc = rt.alloc();
+    let mut out = Bytes::new(alloc);
+    put_fragment(alloc, &mut out)?;
+    let mut sizes = IvSizes::new(alloc);
+    sizes.push(0)?;
+    sizes.push(16)?;
+    let mut read = 0;
+    let mut boxes = Boxes::new(out.as_slice(), 0, true);
+    while let Ok(Some(at)) = boxes.next_box() {
+        let ok = match &at.kind {
+            b"tenc" => read_tenc(&at).is_ok(),
+            b"schm" => read_schm(&at).is_ok(),
+            b"sbgp" => matches!(read_sbgp(alloc, &at), Ok(Some(sbgp)) if sbgp.entries.len() == 2),
+            b"sgpd" => matches!(read_sgpd(alloc, &at), Ok(Some(sgpd)) if sgpd.entries.len() == 1),
+            b"senc" => matches!(read_senc(alloc, &at, &sizes), Ok(senc) if senc.items.len() == 2),
+            b"saiz" => matches!(read_saiz(alloc, &at), Ok(saiz) if saiz.count == 2),
+            _ => matches!(read_saio(alloc, &at), Ok(saio) if saio.offsets.len() == 1),
+        };
+        assert!(rt; ok, "box {read}");
+        read += 1;
+    }
+    assert_eq!(rt; read, 7);
+    Ok(())
+}
