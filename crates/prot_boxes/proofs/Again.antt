@@ -12,6 +12,8 @@ use Rattle.iso_boxes.specs.declared.writing.PutFault.TheVariants.{TooLong}
 use Rattle.iso_boxes.specs.Reading.{Reading, number, number24, some_bytes, repeated, one_each}
 use Rattle.iso_boxes.specs.Children.{placed}
 use Rattle.prot_boxes.specs.declared.fault.ProtKind.{ProtKind}
+use Rattle.iso_boxes.specs.Walk.{Found}
+use Rattle.prot_boxes.specs.declared.fault.ProtFault.{ProtFault}
 use Rattle.iso_boxes.specs.Writing.{boxed}
 use Rattle.iso_boxes.proofs.WrittenAgain.{written_again}
 use Rattle.prot_boxes.specs.Answers.{fault_at, IsReadAgain}
@@ -83,15 +85,15 @@ pub boxed_length : (kind body : List ℕ) → length kind ≡ 4 → length (boxe
 unfolding boxed
 boxed_length kind body k4 = omega (arith, length-append (to_be_bytes w32 (8 + length body)) (kind ++ body), length-append kind body)
 
-read_again : {X : Type 0} (fields : Reading ProtKind X) (kind body old new : List ℕ) (x : X) → new ≡ old ++ boxed kind body → length kind ≡ 4 → 8 + length body < 2 ^ 32
-    → IsAgain fields body x → IsReadAgain (λ b. placed (fault_at b.place) (fields b.body)) old new x
-read_again fields kind body old new x e k4 fits reads after base top =
+abbrev pub box_of : List ℕ → List ℕ → ℕ → Found
+box_of kind body place = record { kind = kind; place = place; body = body; body_place = place + 8 }
+
+read_again : {X : Type 0} (read : Found → Result X ProtFault) (kind body old new : List ℕ) (x : X) → new ≡ old ++ boxed kind body → length kind ≡ 4 → 8 + length body < 2 ^ 32
+    → ((place : ℕ) → read (box_of kind body place) ≡ Ok x) → IsReadAgain read old new x
+read_again read kind body old new x e k4 fits reads after base top =
     let tail : drop (length old) new ≡ boxed kind body = rw e (drop_at old (boxed kind body) (length old) refl) in
     let size : base + length new ≡ base + length old + (8 + length body) = omega (arith, ap length e, length-append old (boxed kind body), boxed_length kind body k4) in
-    let whole : fields body ≡ Ok (x, []) = rw append-nil at (reads []) in (
-      record { kind = kind; place = base + length old; body = body; body_place = base + length old + 8 },
-      (rw (tail, size) (written_again kind body after (base + length old) top k4 fits), (refl, rw whole refl)),
-    )
+    (box_of kind body (base + length old), (rw (tail, size) (written_again kind body after (base + length old) top k4 fits), (refl, reads (base + length old))))
 
 below : (n : ℕ) → (2 ^ 32 ≤ n → ⊥) → n < 2 ^ 32
 below n h = grind arith
@@ -100,9 +102,17 @@ no_fault : {U : Type 0} (u : U) (f : PutFault) → Ok u ≡ Err f → ⊥
 no_fault u f e = absurd cc
 
 -- what a writer appended is read again
+pub box_again : {C X U : Type 0} (r : Result U PutFault) (read : Found → Result X ProtFault) (kind body old new : List ℕ) (x : X)
+    → OnOk r (new ≡ old ++ boxed kind body) → IsErrOf r TooLong ↔ (2 ^ 32 ≤ 8 + length body) → length kind ≡ 4
+    → (C → 8 + length body < 2 ^ 32 → (place : ℕ) → read (box_of kind body place) ≡ Ok x) → OnOk r (C → IsReadAgain read old new x)
+box_again (Ok u) read kind body old new x e long k4 reads =
+    let fits = below (8 + length body) (λ h. no_fault u TooLong (long.1 h)) in
+    λ canonical. read_again read kind body old new x e k4 fits (reads canonical fits)
+box_again (Err f) read kind body old new x e long k4 reads = tt
+
 pub fields_again : {C X U : Type 0} (r : Result U PutFault) (fields : Reading ProtKind X) (kind body old new : List ℕ) (x : X)
     → OnOk r (new ≡ old ++ boxed kind body) → IsErrOf r TooLong ↔ (2 ^ 32 ≤ 8 + length body) → length kind ≡ 4
     → (C → IsAgain fields body x) → OnOk r (C → IsReadAgain (λ b. placed (fault_at b.place) (fields b.body)) old new x)
-fields_again (Ok u) fields kind body old new x e long k4 reads =
-    λ canonical. read_again fields kind body old new x e k4 (below (8 + length body) (λ h. no_fault u TooLong (long.1 h))) (reads canonical)
-fields_again (Err f) fields kind body old new x e long k4 reads = tt
+fields_again r fields kind body old new x e long k4 reads = box_again r (λ b. placed (fault_at b.place) (fields b.body)) kind body old new x e long k4 (λ canonical fits place.
+    let whole : fields body ≡ Ok (x, []) = rw append-nil at (reads canonical []) in
+    rw whole refl)

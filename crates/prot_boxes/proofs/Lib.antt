@@ -7,3 +7,5 @@ pub mod GroupsAgain
 pub mod SencAgain
 pub mod Bounds
 pub mod Few
+pub mod SinfGathered
+pub mod SinfAgain

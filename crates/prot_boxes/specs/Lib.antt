@@ -8,3 +8,5 @@ pub mod Saio
 pub mod Sbgp
 pub mod Sgpd
 pub mod Senc
+pub mod Sinf
+pub mod Gathering

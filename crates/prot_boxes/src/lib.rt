@@ -10,6 +10,7 @@ mod schm;
 mod seig;
 mod senc;
 mod sgpd;
+mod sinf;
 mod tenc;
 #[cfg(test)]
 mod tests;
@@ -22,4 +23,5 @@ pub use schm::{Schm, put_schm, read_schm};
 pub use seig::Seig;
 pub use senc::{Senc, SencItem, SencItems, put_senc, read_senc};
 pub use sgpd::{Seigs, Sgpd, put_sgpd, read_sgpd};
+pub use sinf::{Sinf, put_sinf, read_sinf};
 pub use tenc::{Tenc, put_tenc, read_tenc};

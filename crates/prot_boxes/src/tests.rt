@@ -1,14 +1,19 @@
+ghost use Rattle.std.specs.Prelude.{◌≡◌};
+
 use crate::{
-    ProtFault, ProtKind, Saio, Saiz, Sbgp, SbgpItem, Schm, Seig, Senc, SencItem, Sgpd, Tenc,
-    put_saio, put_saiz, put_sbgp, put_schm, put_senc, put_sgpd, put_tenc, read_saio, read_saiz,
-    read_sbgp, read_schm, read_senc, read_sgpd, read_tenc,
+    ProtFault, ProtKind, Saio, Saiz, Sbgp, SbgpItem, Schm, Seig, Senc, SencItem, Sgpd, Sinf, Tenc,
+    put_saio, put_saiz, put_sbgp, put_schm, put_senc, put_sgpd, put_sinf, put_tenc, read_saio,
+    read_saiz, read_sbgp, read_schm, read_senc, read_sgpd, read_sinf, read_tenc,
 };
-use eme_types::{Bytes, Items, Iv, IvSizes, Sub, Subs};
+use eme_types::{Bytes, Items, Iv, IvSizes, Scheme, Sub, Subs};
 use iso_boxes::{BoxRef, Boxes};
 use std::alloc::Global;
 use std::test::Fail;
 
-fn at(body: &[u8]) -> BoxRef<'_> {
+fn at(body: &[u8]) -> BoxRef<'_>
+    ensures place { result.body_place ≡ 48 }
+    ensures body { result.body.now ≡ body.now }
+{
     BoxRef {
         kind: *b"test",
         place: 40,
@@ -241,5 +246,98 @@ fn written_boxes_are_read_again(rt: HostRuntime) -> Result<(), Fail> {
         read += 1;
     }
     assert_eq!(rt; read, 7);
+    Ok(())
+}
+
+#[test]
+fn schemes_are_read_and_refused(rt: HostRuntime) -> Result<(), Fail> {
+    for (kind, place, body) in [
+        (ProtKind::Scheme, 40, &b"\x00\x00\x00\x0cfrmaavc\x31"[..]),
+        (
+            ProtKind::Scheme,
+            40,
+            &b"\x00\x00\x00\x14schm\x00\x00\x00\x00cens\x00\x01\x00\x00\x00\x00\x00\x28schi\x00\x00\x00\x20tenc\x00\x00\x00\x00\x00\x00\x00\x00\x00\x00\x00\x00\x00\x00\x00\x00\x00\x00\x00\x00\x00\x00\x00\x00"[..],
+        ),
+        (
+            ProtKind::NoTenc,
+            40,
+            &b"\x00\x00\x00\x14schm\x00\x00\x00\x00cenc\x00\x01\x00\x00"[..],
+        ),
+        (
+            ProtKind::NoTenc,
+            40,
+            &b"\x00\x00\x00\x14schm\x00\x00\x00\x00cenc\x00\x01\x00\x00\x00\x00\x00\x08schi"[..],
+        ),
+        (
+            ProtKind::IvSize,
+            76,
+            &b"\x00\x00\x00\x14schm\x00\x00\x00\x00cbcs\x00\x01\x00\x00\x00\x00\x00\x28schi\x00\x00\x00\x20tenc\x01\x00\x00\x00\x00\x19\x01\x08\x00\x00\x00\x00\x00\x00\x00\x00\x00\x00\x00\x00\x00\x00\x00\x00"[..],
+        ),
+        (
+            ProtKind::IvSize,
+            76,
+            &b"\x00\x00\x00\x14schm\x00\x00\x00\x00cbcs\x00\x01\x00\x00\x00\x00\x00\x31schi\x00\x00\x00\x29tenc\x01\x00\x00\x00\x00\x19\x01\x00\x00\x00\x00\x00\x00\x00\x00\x00\x00\x00\x00\x00\x00\x00\x00\x00\x08\x00\x00\x00\x00\x00\x00\x00\x00"[..],
+        ),
+        (
+            ProtKind::Pattern,
+            76,
+            &b"\x00\x00\x00\x14schm\x00\x00\x00\x00cbcs\x00\x01\x00\x00\x00\x00\x00\x28schi\x00\x00\x00\x20tenc\x01\x00\x00\x00\x00\x09\x01\x10\x00\x00\x00\x00\x00\x00\x00\x00\x00\x00\x00\x00\x00\x00\x00\x00"[..],
+        ),
+        (
+            ProtKind::IsProtected,
+            76,
+            &b"\x00\x00\x00\x14schm\x00\x00\x00\x00cens\x00\x01\x00\x00\x00\x00\x00\x28schi\x00\x00\x00\x20tenc\x01\x00\x00\x00\x00\x09\x02\x10\x00\x00\x00\x00\x00\x00\x00\x00\x00\x00\x00\x00\x00\x00\x00\x00"[..],
+        ),
+        (
+            ProtKind::SizeTooSmall,
+            68,
+            &b"\x00\x00\x00\x14schm\x00\x00\x00\x00cenc\x00\x01\x00\x00\x00\x00\x00\x00free"[..],
+        ),
+        (
+            ProtKind::PastEnd,
+            76,
+            &b"\x00\x00\x00\x14schm\x00\x00\x00\x00cenc\x00\x01\x00\x00\x00\x00\x00\x10schi\x00\x00\x00\x20tenc"[..],
+        ),
+        (
+            ProtKind::Short,
+            68,
+            &b"\x00\x00\x00\x14schm\x00\x00\x00\x00cenc\x00\x01\x00\x00\x00\x00\x00"[..],
+        ),
+        (
+            ProtKind::Short,
+            48,
+            &b"\x00\x00\x00\x10schm\x00\x00\x00\x00cenc"[..],
+        ),
+    ] {
+        let fault = ProtFault { place, kind };
+        assert!(rt; body.len() < 4096);
+        assert!(rt; read_sinf(&at(body)) == Err(fault), "{kind:?} at {place}");
+    }
+    let constant = Some(Iv::Sixteen(
+        *b"\x00\x01\x02\x03\x04\x05\x06\x07\x08\x09\x0a\x0b\x0c\x0d\x0e\x0f",
+    ));
+    let tenc = Tenc {
+        version: 1,
+        crypt: 1,
+        skip: 9,
+        protected: true,
+        iv_size: 0,
+        kid: [0; 16],
+        constant,
+    };
+    let sinf = Sinf {
+        scheme: Scheme::Cbcs,
+        tenc,
+    };
+    let mut out = Bytes::new(rt.alloc());
+    put_sinf(rt.alloc(), &mut out, &sinf)?;
+    let expected =
+        b"\x00\x00\x00asinf\x00\x00\x00\x0cfrmaavc\x31\x00\x00\x00\x14schm\x00\x00\x00\x00cbcs\x00\x01\x00\x00\x00\x00\x00\x39schi\x00\x00\x00\x31tenc\x01\x00\x00\x00\x00\x19\x01\x00\x00\x00\x00\x00\x00\x00\x00\x00\x00\x00\x00\x00\x00\x00\x00\x00\x10\x00\x01\x02\x03\x04\x05\x06\x07\x08\x09\x0a\x0b\x0c\x0d\x0e\x0f";
+    assert_eq!(rt; out.as_slice(), expected.as_slice());
+    let Ok(Some(written)) = Boxes::new(out.as_slice(), 0, true).next_box() else {
+        assert!(rt; false, "no box");
+        return Ok(());
+    };
+    assert!(rt; read_sinf(&written) == Ok(sinf));
     Ok(())
 }
