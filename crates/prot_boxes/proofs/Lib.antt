@@ -1,0 +1,11 @@
+pub mod Again
+pub mod SeigAgain
+pub mod TencAgain
+pub mod SchmAgain
+pub mod AuxAgain
+pub mod GroupsAgain
+pub mod SencAgain
+pub mod Bounds
+pub mod Few
+pub mod SinfGathered
+pub mod SinfAgain

@@ -1,0 +1,12 @@
+pub mod Answers
+pub mod Seig
+pub mod Tenc
+pub mod Schm
+pub mod AuxType
+pub mod Saiz
+pub mod Saio
+pub mod Sbgp
+pub mod Sgpd
+pub mod Senc
+pub mod Sinf
+pub mod Gathering
