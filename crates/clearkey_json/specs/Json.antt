@@ -1,5 +1,5 @@
 -- JSON texts (RFC 8259), and what is read from a list in one.
-use Rattle.std.specs.Prelude.{ℕ, List, [], ◌∷◌, Option, None, Result, Ok, Err, option_and_then, if◌then◌else◌}
+use Rattle.std.specs.Prelude.{◌≡◌, ◌≢◌, ℕ, List, [], ◌∷◌, Option, None, Result, Ok, Err, MatchResult, option_and_then, if◌then◌else◌}
 use Rattle.std.specs.Str.{is_utf8}
 use Rattle.serde_json.specs.Data.{Data, Items, no_items, item}
 use Rattle.serde_json.specs.Read.{read}
@@ -10,9 +10,9 @@ unfoldable pub json_of : List ℕ → Option Data
 json_of bytes = if is_utf8 bytes then read bytes else None
 
 -- the items of a list
-abbrev pub items_of : Items → List Data
-items_of no_items = []
-items_of (item d ds) = d ∷ items_of ds
+abbrev pub list_of : Items → List Data
+list_of no_items = []
+list_of (item d ds) = d ∷ list_of ds
 
 -- the text at a member of an object
 abbrev pub text_at : List ℕ → Data → Option (List ℕ)
@@ -30,3 +30,7 @@ read_each reader (x ∷ xs) = do
   y ← reader x
   ys ← read_each reader xs
   Ok (y ∷ ys)
+
+-- what a reader returned, seen by view, is what the definition gives, unless memory ran out
+abbrev pub Gives : {X Y E : Type 0} → E → (X → Y) → Result X E → Result Y E → Type 0
+Gives memory view result read = MatchResult result (λ x. read ≡ Ok (view x)) (λ e. e ≢ memory → read ≡ Err e)

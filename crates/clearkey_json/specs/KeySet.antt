@@ -9,7 +9,7 @@ use Rattle.clearkey_json.specs.declared.key_set.KeySet.{KeySet}
 use Rattle.clearkey_json.specs.declared.key_set.KeySetFault.{KeySetFault}
 use Rattle.clearkey_json.specs.declared.key_set.KeySetFault.TheVariants.{TooLong, Json, Shape, NoKeys, Kty, Kid, Key, Kind, Expires}
 use Rattle.clearkey_json.specs.Base64url.{kid_of, key_of}
-use Rattle.clearkey_json.specs.Json.{json_of, items_of, text_at, ◌>>=◌, read_each}
+use Rattle.clearkey_json.specs.Json.{json_of, list_of, text_at, ◌>>=◌, read_each}
 
 -- the rule holds, else the fault
 abbrev pub demanded : Bool → KeySetFault → Result (Unit {0}) KeySetFault
@@ -20,7 +20,7 @@ abbrev pub is_web_key : Data → Bool
 is_web_key d = is_some (text_at (codes "kty") d) && is_some (text_at (codes "kid") d) && is_some (text_at (codes "k") d)
 
 abbrev pub are_web_keys : Items → Option (List Data)
-are_web_keys ds = if list_all is_web_key (items_of ds) then Some (items_of ds) else None
+are_web_keys ds = if list_all is_web_key (list_of ds) then Some (list_of ds) else None
 
 -- the member keys, a list of such objects (RFC 7517 section 5.1)
 unfoldable pub web_keys : Data → Option (List Data)

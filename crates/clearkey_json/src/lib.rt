@@ -2,5 +2,11 @@
 #![tactic(auto)]
 
 mod key_set;
+mod request;
+#[cfg(test)]
+mod tests;
+mod text;
 
-pub use key_set::{KeySet, KeySetFault};
+pub use key_set::{KeySet, KeySetFault, read_key_set};
+pub use request::request_text;
+pub use text::{json_of, kid_of};

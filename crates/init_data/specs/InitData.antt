@@ -3,7 +3,7 @@ use Rattle.std.specs.Prelude.{ℕ, List, [], ◌∷◌, length, not, filter, fla
 use Rattle.serde_json.specs.Data.{Data, Items}
 use Rattle.serde_json.specs.Find.{get, as_array, as_str}
 use Rattle.clearkey_json.specs.Base64url.{kid_of}
-use Rattle.clearkey_json.specs.Json.{json_of, items_of, ◌>>=◌, read_each}
+use Rattle.clearkey_json.specs.Json.{json_of, list_of, ◌>>=◌, read_each}
 use Rattle.eme_types.specs.declared.media.InitKind.{InitKind}
 use Rattle.eme_types.specs.declared.media.InitKind.TheVariants.{Cenc, Keyids}
 use Rattle.init_data.specs.declared.fault.InitFault.{InitFault}
@@ -25,7 +25,7 @@ abbrev pub kid_in : Data → Result (List ℕ) InitFault
 kid_in d = ok_or (option_and_then kid_of (as_str d)) Invalid
 
 abbrev pub kids_in : Items → Result (List (List ℕ)) InitFault
-kids_in ds = read_each kid_in (items_of ds)
+kids_in ds = read_each kid_in (list_of ds)
 
 abbrev pub keyids_of : List ℕ → Result (List (List ℕ)) InitFault
 keyids_of bytes = do
