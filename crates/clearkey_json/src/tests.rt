@@ -207,9 +207,8 @@ fn the_alphabet_is_the_url_safe_one(rt: HostRuntime) -> Result<(), Fail> {
 fn texts_have_limits(rt: HostRuntime) -> Result<(), Fail> {
     for (room, fault) in [(65_536, None), (65_537, Some(KeySetFault::TooLong))] {
         let mut text = set_of(rt.alloc(), "AA", "K34VFiiu0qar9xWICc9PPA", "")?;
-        while text.len() < room {
-            text.push_str(" ")?;
-        }
+        let spaces = repeated(rt.alloc(), " ", room.saturating_sub(text.len()))?;
+        text.push_str(spaces.as_str())?;
         assert_eq!(rt;
             fault_of(rt.alloc(), text.as_bytes()),
             fault,
