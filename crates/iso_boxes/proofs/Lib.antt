@@ -1,0 +1,6 @@
+pub mod Walking
+pub mod Places
+pub mod WrittenAgain
+pub mod Repeating
+pub mod Gathering
+pub mod Front
