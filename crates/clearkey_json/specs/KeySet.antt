@@ -1,5 +1,5 @@
 -- The licence of Clear Key: a JSON Web Key Set (Encrypted Media Extensions section 9.1.4, RFC 7517 section 5).
-use Rattle.std.specs.Prelude.{ℕ, ◌^◌, List, [], ◌∷◌, length, Bool, true, ◌&&◌, nat_lt, nat_le, Option, Some, None, is_some, option_and_then, Result, Ok, Err, ok_or, codes, bytes_eq, if◌then◌else◌}
+use Rattle.std.specs.Prelude.{ℕ, ◌^◌, List, [], ◌∷◌, length, Bool, true, ◌&&◌, nat_le, Option, Some, None, is_some, option_and_then, Result, Ok, Err, ok_or, codes, bytes_eq, if◌then◌else◌}
 use Rattle.std.specs.List.{list_all}
 use Rattle.std.specs.Option.{option_eq}
 use Rattle.serde_json.specs.Data.{Data, Items}

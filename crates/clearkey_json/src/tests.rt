@@ -205,7 +205,7 @@ fn the_alphabet_is_the_url_safe_one(rt: HostRuntime) -> Result<(), Fail> {
 
 #[test]
 fn texts_have_limits(rt: HostRuntime) -> Result<(), Fail> {
-    for (room, fault) in [(65_536, None), (65_537, Some(KeySetFault::TooLong))] {
+    for (room, fault) in [(65_536_usize, None), (65_537, Some(KeySetFault::TooLong))] {
         let mut text = set_of(rt.alloc(), "AA", "K34VFiiu0qar9xWICc9PPA", "")?;
         let spaces = repeated(rt.alloc(), " ", room.saturating_sub(text.len()))?;
         text.push_str(spaces.as_str())?;

@@ -1,8 +1,8 @@
-use Rattle.std.proofs.Common.{◌≡◌, ◌∙◌, ap, arith, rules}
+use Rattle.std.proofs.Common.{◌∙◌, rules}
 use Rattle.std.proofs.lemmas.Result.{err_from_is_err_and}
 use Rattle.serde_json.specs.View.{view}
 use Rattle.clearkey_json.specs.KeySet.{pair_of}
-use Rattle.clearkey_json.proofs.ListLemmas.{first_read, next_read, refused_read, all_read}
+use Rattle.clearkey_json.proofs.ListLemmas.{next_read, refused_read, all_read}
 use Rattle.clearkey_json.proofs.KeySetLemmas.{pairs_of-some}
 use Rattle.clearkey_json.proofs.key_set.pairs_of.Goals as goal
 

@@ -1,7 +1,5 @@
-use Rattle.std.proofs.Common.{◌≡◌, ◌∙◌, sym, ap, map, true, false}
-use Rattle.std.specs.List.{list_all}
+use Rattle.std.proofs.Common.{◌∙◌, sym, true, false}
 use Rattle.serde_json.specs.View.{view}
-use Rattle.clearkey_json.specs.KeySet.{is_web_key}
 use Rattle.clearkey_json.proofs.KeySetLemmas.{web_keys-is}
 use Rattle.clearkey_json.proofs.key_set.web_keys.Goals as goal
 
