@@ -1,6 +1,6 @@
 -- The key ids of initialization data (Encrypted Media Extensions Initialization Data Format Registry).
-use Rattle.std.specs.Prelude.{ℕ, List, [], ◌∷◌, length, not, filter, flat_map, bytes_eq, nat_le, Bool, Option, option_and_then, Result, Ok, Err, ok_or, codes, if◌then◌else◌}
-use Rattle.serde_json.specs.Data.{Data, Items}
+use Rattle.std.specs.Prelude.{ℕ, List, [], ◌∷◌, length, not, filter, flat_map, bytes_eq, nat_le, option_and_then, Result, Ok, Err, ok_or, codes, if◌then◌else◌}
+use Rattle.serde_json.specs.Data.{Data}
 use Rattle.serde_json.specs.Find.{get, as_array, as_str}
 use Rattle.clearkey_json.specs.Base64url.{kid_of}
 use Rattle.clearkey_json.specs.Json.{json_of, list_of, ◌>>=◌, read_each}
@@ -9,29 +9,20 @@ use Rattle.eme_types.specs.declared.media.InitKind.TheVariants.{Cenc, Keyids}
 use Rattle.init_data.specs.declared.fault.InitFault.{InitFault}
 use Rattle.init_data.specs.declared.fault.InitFault.TheVariants.{Invalid, NoKids}
 use Rattle.init_data.specs.declared.pssh.Pssh.{Pssh}
-use Rattle.init_data.specs.Pssh.{pssh_list}
+use Rattle.init_data.specs.Pssh.{demanded, pssh_list}
 
-abbrev pub demanded : Bool → Result (Unit {0}) InitFault
-demanded holds = if holds then Ok tt else Err Invalid
+-- ---- "keyids": a JSON object whose member kids is a list of key ids as base64url texts
 
--- each id once, where it first stands
-unfoldable pub first_occurrences : List (List ℕ) → List (List ℕ)
-first_occurrences [] = []
-first_occurrences (kid ∷ kids) = kid ∷ filter (λ other. not (bytes_eq kid other)) (first_occurrences kids)
-
--- ---- "keyids": a JSON object whose member kids is a list of key ids
-
-abbrev pub kid_in : Data → Result (List ℕ) InitFault
+unfoldable pub kid_in : Data → Result (List ℕ) InitFault
 kid_in d = ok_or (option_and_then kid_of (as_str d)) Invalid
 
-abbrev pub kids_in : Items → Result (List (List ℕ)) InitFault
-kids_in ds = read_each kid_in (list_of ds)
-
-abbrev pub keyids_of : List ℕ → Result (List (List ℕ)) InitFault
+unfoldable pub keyids_of : List ℕ → Result (List (List ℕ)) InitFault
 keyids_of bytes = do
   short ← demanded (nat_le (length bytes) 65536)
-  kids ← ok_or (option_and_then as_array (option_and_then (get (codes "kids")) (json_of bytes))) Invalid
-  kids_in kids
+  object ← ok_or (json_of bytes) Invalid
+  member ← ok_or (get (codes "kids") object) Invalid
+  kids ← ok_or (as_array member) Invalid
+  read_each kid_in (list_of kids)
 
 -- ---- "cenc": `pssh` boxes, of which those with the Common SystemID tell their key ids
 
@@ -42,12 +33,17 @@ common_system = 0x10 ∷ 0x77 ∷ 0xef ∷ 0xec ∷ 0xc0 ∷ 0xb2 ∷ 0x4d ∷ 0
 abbrev pub common_kids : Pssh → List (List ℕ)
 common_kids p = if bytes_eq p.system common_system then p.kids else []
 
-abbrev pub cenc_of : List ℕ → Result (List (List ℕ)) InitFault
+unfoldable pub cenc_of : List ℕ → Result (List (List ℕ)) InitFault
 cenc_of bytes = do
-  boxes ← ok_or (pssh_list bytes) Invalid
-  Ok (flat_map common_kids boxes)
+  list ← pssh_list bytes
+  Ok (flat_map common_kids list)
 
 -- ---- both
+
+-- each id once, where it first stands
+unfoldable pub first_occurrences : List (List ℕ) → List (List ℕ)
+first_occurrences [] = []
+first_occurrences (kid ∷ kids) = kid ∷ filter (λ other. not (bytes_eq kid other)) (first_occurrences kids)
 
 abbrev pub listed : InitKind → List ℕ → Result (List (List ℕ)) InitFault
 listed Cenc bytes = cenc_of bytes

@@ -1,3 +1,6 @@
+// Refusals.
+use std::alloc::{AllocError, AllocFailed};
+
 /// Why initialization data gives no key ids.
 #[derive(Clone, Copy, Debug, PartialEq, Eq)]
 pub enum InitFault {
@@ -6,4 +9,26 @@ pub enum InitFault {
     /// They name no key id.
     NoKids,
     OutOfMemory,
+}
+
+impl From<AllocError> for InitFault {
+    ghost use Rattle.std.specs.Prelude.{◌≡◌};
+    ghost use Rattle.init_data.specs.declared.fault.InitFault.TheVariants.{OutOfMemory};
+
+    ghost from_gives = { λ _ e. e ≡ OutOfMemory };
+
+    fn from(_: AllocError) -> InitFault {
+        InitFault::OutOfMemory
+    }
+}
+
+impl<T: Drop> From<AllocFailed<T>> for InitFault {
+    ghost use Rattle.std.specs.Prelude.{◌≡◌};
+    ghost use Rattle.init_data.specs.declared.fault.InitFault.TheVariants.{OutOfMemory};
+
+    ghost from_gives = { λ _ e. e ≡ OutOfMemory };
+
+    fn from(_: AllocFailed<T>) -> InitFault {
+        InitFault::OutOfMemory
+    }
 }

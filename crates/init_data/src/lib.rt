@@ -2,7 +2,11 @@
 #![tactic(auto)]
 
 mod fault;
+mod kids;
 mod pssh;
+#[cfg(test)]
+mod tests;
 
 pub use fault::InitFault;
-pub use pssh::Pssh;
+pub use kids::kids_of;
+pub use pssh::{Pssh, PsshList, read_pssh};
