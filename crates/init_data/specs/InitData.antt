@@ -49,12 +49,12 @@ abbrev pub listed : InitKind → List ℕ → Result (List (List ℕ)) InitFault
 listed Cenc bytes = cenc_of bytes
 listed Keyids bytes = keyids_of bytes
 
-abbrev pub some_kids : List (List ℕ) → Result (List (List ℕ)) InitFault
-some_kids [] = Err NoKids
-some_kids (kid ∷ kids) = Ok (first_occurrences (kid ∷ kids))
+abbrev pub named_kids : List (List ℕ) → Result (List (List ℕ)) InitFault
+named_kids [] = Err NoKids
+named_kids (kid ∷ kids) = Ok (first_occurrences (kid ∷ kids))
 
 -- the key ids that initialization data names, each once, in order
 unfoldable pub kids_of : InitKind → List ℕ → Result (List (List ℕ)) InitFault
 kids_of kind bytes = do
   kids ← listed kind bytes
-  some_kids kids
+  named_kids kids

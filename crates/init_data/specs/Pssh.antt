@@ -1,11 +1,12 @@
 -- Protection system specific headers (ISO/IEC 23001-7 section 8.1), alone in initialization data.
-use Rattle.std.specs.Prelude.{ℕ, ◌==◌, Bool, false, ◌&&◌, List, [], ◌++◌, length, bytes_eq, nat_lt, nat_le, Option, Some, None, Result, Ok, Err, codes, if◌then◌else◌, flat_map}
+use Rattle.std.specs.Prelude.{◌≡◌, ℕ, ◌+◌, ◌%◌, ◌^◌, ◌≤◌, ◌==◌, Bool, false, ◌&&◌, List, [], ◌∷◌, ◌++◌, length, drop, bytes_eq, nat_lt, nat_le, Option, Some, None, Result, Ok, Err, codes, if◌then◌else◌, flat_map}
+use Rattle.std.specs.List.{All}
 use Rattle.std.specs.Int.{w8, w32, to_be_bytes}
 use Rattle.clearkey_json.specs.Json.{◌>>=◌, read_each}
 use Rattle.iso_boxes.specs.declared.walk.BoxFault.{BoxFault}
 use Rattle.iso_boxes.specs.Reading.{number, number24, some_bytes, repeated}
-use Rattle.iso_boxes.specs.Walk.{Found, Walked, walk}
-use Rattle.iso_boxes.specs.Writing.{number24_body, boxed}
+use Rattle.iso_boxes.specs.Walk.{Found, Walked, before, walk}
+use Rattle.iso_boxes.specs.Writing.{boxed}
 use Rattle.init_data.specs.declared.fault.InitFault.{InitFault}
 use Rattle.init_data.specs.declared.fault.InitFault.TheVariants.{Invalid}
 use Rattle.init_data.specs.declared.pssh.Pssh.{Pssh}
@@ -67,11 +68,35 @@ pssh_list bytes = do
 
 -- ---- writing
 
-abbrev pub listed_body : Pssh → List ℕ
-listed_body p = if p.version == 0 then [] else to_be_bytes w32 (length p.kids) ++ flat_map (λ kid. kid) p.kids
+-- version 0 has none
+abbrev pub listed_body : ℕ → List (List ℕ) → List ℕ
+listed_body version kids = if version == 0 then [] else to_be_bytes w32 (length kids % 2 ^ 32) ++ flat_map (λ kid. kid) kids
 
+abbrev pub content_body : List ℕ → List ℕ
+content_body content = to_be_bytes w32 (length content % 2 ^ 32) ++ content
+
+-- the flags are 0
 unfoldable pub pssh_body : Pssh → List ℕ
-pssh_body p = to_be_bytes w8 p.version ++ number24_body 0 ++ p.system ++ listed_body p ++ to_be_bytes w32 (length p.content) ++ p.content
+pssh_body p = p.version ∷ 0 ∷ 0 ∷ 0 ∷ (p.system ++ (listed_body p.version p.kids ++ content_body p.content))
 
 abbrev pub pssh_box : Pssh → List ℕ
 pssh_box p = boxed (codes "pssh") (pssh_body p)
+
+-- key ids of 16 bytes
+abbrev pub AreSixteen : List (List ℕ) → Type 0
+AreSixteen kids = All (λ kid. length kid ≡ 16) kids
+
+-- each field fits its width, and initialization data may hold the box
+pub record IsCanonical (p : Pssh) : Type 0 where
+  pub system : length p.system ≡ 16
+  pub kids : AreSixteen p.kids
+  pub plain : p.version ≡ 0 → p.kids ≡ []
+  pub short : length (pssh_box p) ≤ 65536
+
+-- behind the old bytes stands one box, and it is read as this record, whatever follows it and wherever the bytes stand
+abbrev pub IsReadAgain : List ℕ → List ℕ → Pssh → Type 0
+IsReadAgain old new p =
+    (after : List ℕ) (base : ℕ) (top : Bool)
+    → (b : Found)
+    × ((walk (drop (length old) new ++ after) (base + length old) top ≡ before b (walk after (base + length new) top))
+    × ((b.place ≡ base + length old) × (pssh_in b ≡ Ok p)))

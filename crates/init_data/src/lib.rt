@@ -9,4 +9,4 @@ mod tests;
 
 pub use fault::InitFault;
 pub use kids::kids_of;
-pub use pssh::{Pssh, PsshList, read_pssh};
+pub use pssh::{Pssh, PsshList, put_pssh, read_pssh};

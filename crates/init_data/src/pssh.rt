@@ -1,14 +1,16 @@
 // Protection system specific headers.
-ghost use Rattle.std.specs.Prelude.{◌≡◌, ◌≢◌, ◌+◌, ◌^◌, ◌≤◌, ◌<◌, ◌++◌, [], length, false, IfOk, IfErr, OnOk, OnErr, IsErrOf, Ok, Err};
+ghost use Rattle.std.specs.Prelude.{◌≡◌, ◌≢◌, ◌+◌, ◌^◌, ◌≤◌, ◌<◌, ◌++◌, [], ◌∷◌, length, drop, flat_map, false, IfOk, IfErr, OnOk, OnErr, IsErrOf, Ok, Err};
 ghost use Rattle.std.specs.List.{All};
 ghost use Rattle.clearkey_json.specs.Json.{Gives};
 ghost use Rattle.iso_boxes.specs.Walk.{found, walk};
 ghost use Rattle.init_data.specs.declared.fault.InitFault.TheVariants.{Invalid, NoKids, OutOfMemory};
-ghost use Rattle.init_data.specs.Pssh.{some_kids, gathered, counted_kids, kids_at, content_at, pssh_of, pssh_in, pssh_list, listed_body, pssh_body, pssh_box};
+ghost use Rattle.init_data.specs.Pssh.{some_kids, gathered, counted_kids, kids_at, content_at, pssh_of, pssh_in, pssh_list, listed_body, content_body, pssh_body, pssh_box, AreSixteen, IsCanonical, IsReadAgain};
 
 use crate::fault::InitFault;
 use eme_types::{Bytes, Items, KeyId, Kids};
-use iso_boxes::{BoxRef, Boxes, bytes16, fields, u8_at, u24_at, u32_at};
+use iso_boxes::{
+    BoxRef, Boxes, PutFault, bytes16, fields, put_box, put_bytes, put_u32, u8_at, u24_at, u32_at,
+};
 use std::alloc::{AllocError, Global};
 
 /// A `pssh` box (ISO/IEC 23001-7 section 8.1): the protection system by its SystemID, the key ids of 16 bytes that versions
@@ -137,4 +139,56 @@ pub fn read_pssh(alloc: Global, bytes: &[u8]) -> Result<PsshList, InitFault>
         return Err(InitFault::Invalid);
     }
     gathered(alloc, bytes)
+}
+
+fn put_kids(body: &mut Bytes, kids: &[KeyId]) -> Result<(), AllocError>
+    ensures { OnOk result (body.new ≡ body.old ++ flat_map (λ kid. kid) kids.now) }
+{
+    for kid in kids {
+        put_bytes(body, kid.bytes())?;
+    }
+    Ok(())
+}
+
+fn put_listed(body: &mut Bytes, version: u8, kids: &[KeyId]) -> Result<(), AllocError>
+    ensures { OnOk result (body.new ≡ body.old ++ listed_body version kids.now) }
+{
+    if version == 0 {
+        return Ok(());
+    }
+    put_u32(body, (kids.len() % 0x1_0000_0000) as u32)?;
+    put_kids(body, kids)
+}
+
+fn put_content(body: &mut Bytes, content: &[u8]) -> Result<(), AllocError>
+    ensures { OnOk result (body.new ≡ body.old ++ content_body content.now) }
+{
+    put_u32(body, (content.len() % 0x1_0000_0000) as u32)?;
+    put_bytes(body, content)
+}
+
+#[tactic(auto, unfolding(crate::specs::Pssh::pssh_body))]
+fn pssh_body(alloc: Global, what: &Pssh) -> Result<Bytes, AllocError>
+    ensures { IfOk result (λ body. body ≡ pssh_body what.now) }
+{
+    let mut body = Bytes::new(alloc);
+    fields!(body; &[what.version, 0, 0, 0] => put_bytes, &what.system => put_bytes);
+    put_listed(&mut body, what.version, what.kids.as_slice())?;
+    put_content(&mut body, what.content.as_slice())?;
+    Ok(body)
+}
+
+/// Appends a `pssh` box with flags 0 (ISO/IEC 23001-7 section 8.1).
+pub fn put_pssh(alloc: Global, out: &mut Bytes, what: &Pssh) -> Result<(), PutFault>
+    requires sixteen { AreSixteen what.now.kids }
+    requires plain { what.now.version ≡ 0 → what.now.kids ≡ [] }
+    ensures ok { OnOk result (out.new ≡ out.old ++ pssh_box what.now) }
+    ensures again { OnOk result (IsCanonical what.now → IsReadAgain out.old out.new what.now) }
+    ensures alone { OnOk result (IsCanonical what.now → pssh_list (drop (length out.old) out.new) ≡ Ok (what.now ∷ [])) }
+    ensures fits { OnOk result (8 + length (pssh_body what.now) < 2 ^ 32) }
+    ensures too_long { IsErrOf result PutFault.TooLong → 2 ^ 32 ≤ 8 + length (pssh_body what.now) }
+    ensures err { OnErr result (out.new ≡ out.old) }
+{
+    let body = pssh_body(alloc, what)?;
+    put_box(alloc, out, *b"pssh", body.as_slice())
 }
