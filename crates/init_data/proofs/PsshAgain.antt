@@ -1,19 +1,17 @@
 -- A pssh box that was written is read again.
-use Rattle.std.proofs.Common.{◌≡◌, ℕ, zero, suc, ◌+◌, ◌%◌, ◌^◌, ◌<◌, ◌≤◌, Bool, true, false, ltb, List, [], ◌∷◌, ◌++◌, length, drop, None, Result, Ok, Err, OnOk, refl, ap, ◌∙◌, arith, append_assoc, append-nil}
-use Rattle.std.specs.Prelude.{◌==◌, nat_lt, nat_le, codes, flat_map}
-use Rattle.std.specs.List.{All}
+use Rattle.std.proofs.Common.{◌≡◌, ℕ, suc, ◌+◌, ◌%◌, ◌^◌, ◌<◌, ◌≤◌, Bool, true, false, ltb, List, [], ◌∷◌, ◌++◌, length, drop, None, Result, Ok, Err, OnOk, refl, ap, ◌∙◌, arith, append_assoc, append-nil}
+use Rattle.std.specs.Prelude.{◌==◌, nat_le, codes, flat_map}
 use Rattle.std.specs.Int.{Width, w8, w32, byte_len, from_be_bytes, to_be_bytes}
 use Rattle.std.proofs.lemmas.Bool.{le-ltb, lt-ltb, le-leb, eq-eqb, eqb-true}
 use Rattle.std.proofs.lemmas.List.{take_at, drop_at, length-append}
-use Rattle.std.proofs.lemmas.List.Elements.{All-head, All-tail, All-weaker}
+use Rattle.std.proofs.lemmas.List.Elements.{All-head, All-tail}
 use Rattle.std.proofs.lemmas.Nat.{from_be_bytes-to_be_bytes_4}
 use Rattle.clearkey_json.specs.Json.{read_each}
 use Rattle.iso_boxes.specs.declared.writing.PutFault.{PutFault}
-use Rattle.iso_boxes.specs.Reading.{Reading, number, number24, some_bytes, repeated}
+use Rattle.iso_boxes.specs.Reading.{number, number24, some_bytes, repeated}
 use Rattle.iso_boxes.specs.Walk.{Found, before, boxes_left, walk, walk_of}
 use Rattle.iso_boxes.specs.Writing.{boxed}
 use Rattle.iso_boxes.proofs.WrittenAgain.{written_again}
-use Rattle.init_data.specs.declared.fault.InitFault.{InitFault}
 use Rattle.init_data.specs.declared.fault.InitFault.TheVariants.{Invalid}
 use Rattle.init_data.specs.declared.pssh.Pssh.{Pssh}
 use Rattle.init_data.specs.Pssh.{counted_kids, kids_at, content_at, pssh_of, pssh_in, gathered, pssh_list, listed_body, content_body, pssh_body, pssh_box, AreSixteen, IsCanonical, IsReadAgain}

@@ -1,4 +1,4 @@
-use Rattle.std.proofs.Common.{rules, refl, codes}
+use Rattle.std.proofs.Common.{rules}
 use Rattle.init_data.proofs.PsshAgain.{written, alone}
 use Rattle.init_data.proofs.pssh.put_pssh.Goals as goal
 
