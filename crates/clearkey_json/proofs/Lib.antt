@@ -1,0 +1,4 @@
+pub mod JsonLemmas
+pub mod KeySetLemmas
+pub mod ListLemmas
+pub mod RequestLemmas

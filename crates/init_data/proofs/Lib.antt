@@ -1,0 +1,4 @@
+pub mod FirstLemmas
+pub mod KidsLemmas
+pub mod PsshLemmas
+pub mod PsshAgain

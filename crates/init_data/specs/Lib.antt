@@ -1,0 +1,2 @@
+pub mod InitData
+pub mod Pssh
