@@ -15,8 +15,11 @@ pub struct HostShelf<'a, R> {
 }
 
 impl<'a, R: Files + Print> HostShelf<'a, R> {
-    /// The shelf of this runtime.
-    pub fn new(rt: &'a R) -> HostShelf<'a, R> {
+    /// The shelf of this runtime. No fault is counted yet.
+    pub fn new(rt: &'a R) -> HostShelf<'a, R>
+        ensures reads { result.read_faults ≡ 0 }
+        ensures writes { result.write_faults ≡ 0 }
+    {
         HostShelf {
             rt,
             read_faults: 0,
