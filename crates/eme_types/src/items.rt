@@ -68,6 +68,13 @@ impl<T> Items<T> {
         Items { items }
     }
 
+    /// The items as a `Vec`, without a copy.
+    pub fn into_vec(self) -> Vec<T>
+        ensures { result.items ≡ self }
+    {
+        self.items
+    }
+
     /// The number of items.
     pub fn len(&self) -> usize
         ensures { result ≡ length self.now }
