@@ -1,0 +1,5 @@
+pub mod Leaving
+pub mod MoovLeaving
+pub mod TableLeaving
+pub mod Taking
+pub mod Few

@@ -1,0 +1,30 @@
+use Rattle.std.proofs.Common.{◌≡◌, inr}
+use Rattle.std.proofs.lemmas.Result.{err_from_is_err_and}
+use Rattle.iso_boxes.specs.Walk.{found, boxes_left}
+use Rattle.iso_boxes.proofs.Gathering.{ends_broken, goes_on, stops}
+use Rattle.frag_boxes.specs.Moov.{moov_at}
+use Rattle.frag_boxes.specs.declared.fault.FragKind.TheVariants.{OutOfMemory}
+use Rattle.frag_boxes.proofs.MoovLeaving.{moov_reader, moov_gathers, moov_starts, moov_ends}
+use Rattle.frag_boxes.proofs.moov.moov_of.Goals as goal
+
+pub loop-parts-init : goal.loop-parts-init
+loop-parts-init c = rw (c.new-parts.ensures, c.new-boxes.ensures) (moov_starts (found c.args.at.now))
+
+pub returns-in_err-inner : goal.returns-in_err-inner
+returns-in_err-inner c =
+    let p = err_from_is_err_and c.from_residual.result c.from_residual.ensures.1 in
+    rw (p.1, p.2) (inr (ends_broken (moov_reader c.args.at.now.place) c.loop-parts.parts (boxes_left c.loop-parts.boxes) _ (moov_at (found c.args.at.now)) c.in_err-inner.ensures.walks c.loop-parts.invariant))
+
+pub returns-in_err-part : goal.returns-in_err-part
+returns-in_err-part c =
+    let r = moov_reader c.args.at.now.place in
+    let p = err_from_is_err_and c.from_residual-in_err-part.result c.from_residual-in_err-part.ensures.1 in
+    rw (p.1, p.2) (stops r (moov_gathers c.args.at.now.place) (c.in_err-part.field-0.0.kind ≡ OutOfMemory) c.loop-parts.parts (found c.in-Some.inner) (boxes_left c.loop-parts.boxes) (boxes_left c.next_box.new.self) (moov_at (found c.args.at.now)) c.in_err-part.field-0.0 (rw c.in-Some.is at c.in_ok-inner.ensures.walks) (rw c.as_slice.ensures at c.in_err-part.ensures) c.loop-parts.invariant)
+
+pub loop-parts-preserved : goal.loop-parts-preserved
+loop-parts-preserved c =
+    let r = moov_reader c.args.at.now.place in
+    rw c.in_ok-add.ensures (goes_on r (moov_gathers c.args.at.now.place) c.loop-parts.parts c.in_ok-part.part (found c.in-Some.inner) (boxes_left c.loop-parts.boxes) (boxes_left c.next_box.new.self) (moov_at (found c.args.at.now)) (rw c.in-Some.is at c.in_ok-inner.ensures.walks) (rw c.as_slice.ensures at c.in_ok-part.ensures) c.loop-parts.invariant)
+
+pub returns : goal.returns
+returns c = rw c.in_ok-movie.ensures (moov_ends c.args.at.now.place c.loop-parts.parts (boxes_left c.loop-parts.boxes) (moov_at (found c.args.at.now)) (rw c.in_default.is at c.in_ok-inner.ensures.walks) c.loop-parts.invariant)

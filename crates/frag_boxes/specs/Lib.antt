@@ -1,0 +1,6 @@
+pub mod Fields
+pub mod Moof
+pub mod Gathering
+pub mod Table
+pub mod Moov
+pub mod Counts
