@@ -1,0 +1,4 @@
+pub mod AccessLemmas
+pub mod ConfigsLemmas
+pub mod PartsLemmas
+pub mod TextLemmas

@@ -1,0 +1,24 @@
+use Rattle.std.proofs.lemmas.List.Elements.{All-push}
+use Rattle.std.proofs.lemmas.Result.{err_from_is_err_and}
+use Rattle.serde_json.specs.View.{view}
+use Rattle.clearkey_json.proofs.ListLemmas.{next_read, refused_read, all_read}
+use Rattle.key_system_access.specs.Configs.{capability_of}
+use Rattle.key_system_access.specs.Utf8.{IsCapabilityUtf8}
+use Rattle.key_system_access.proofs.configs.capabilities_in.Goals as goal
+
+pub returns-in_err-capability-clause-value : goal.returns-in_err-capability-clause-value
+returns-in_err-capability-clause-value c =
+    let p = err_from_is_err_and c.from_residual-in_err-capability.result c.from_residual-in_err-capability.ensures.1 in
+    let l = c.loop-value in
+    rw (p.1, p.2) (λ other. refused_read capability_of view c.args.values.now l.value-index c.value-item.result l.capabilities _ _ c.loop-value-test.true c.value-item.is (c.in_err-capability.ensures.value other) l.invariant.read)
+
+pub loop-value-preserved : goal.loop-value-preserved
+loop-value-preserved c =
+    let l = c.loop-value in
+    record {
+      read = rw c.in_ok-push.ensures.ok (next_read capability_of view c.args.values.now l.value-index c.value-item.result l.capabilities _ _ c.loop-value-test.true c.value-item.is c.in_ok-capability.ensures.value l.invariant.read);
+      utf8 = rw c.in_ok-push.ensures.ok (All-push IsCapabilityUtf8 l.capabilities _ l.invariant.utf8 c.in_ok-capability.ensures.utf8);
+    }
+
+pub returns-clause-value : goal.returns-clause-value
+returns-clause-value c = all_read capability_of view c.args.values.now c.loop-value.value-index _ _ c.loop-value-test.false c.loop-value.invariant.read

@@ -1,0 +1,14 @@
+use Rattle.std.proofs.Common.{◌≡◌, map, drop}
+use Rattle.std.specs.List.{All}
+use Rattle.serde_json.specs.View.{view}
+use Rattle.clearkey_json.specs.Json.{read_each}
+use Rattle.clearkey_json.proofs.ListLemmas.{with_front}
+use Rattle.key_system_access.specs.Configs.{config_of}
+use Rattle.key_system_access.specs.Utf8.{IsConfigUtf8}
+use Rattle.key_system_access.proofs.configs.configs_in.Given as goal
+
+abbrev pub invariant-loop-value : goal.invariant-loop-value
+invariant-loop-value l = record {
+  read : read_each config_of (map view l.values) ≡ with_front l.configs (read_each config_of (map view (drop l.value-index l.values)));
+  utf8 : All IsConfigUtf8 l.configs;
+}
