@@ -1,0 +1,179 @@
+-- Lists of places, and which claims wait for their delivery.
+use Rattle.std.proofs.Common.{zero, suc, ◌≡◌, ℕ, ◌+◌, ◌-◌, ◌≤◌, ◌⊎◌, inl, inr, Bool, List, [], ◌∷◌, ◌++◌, length, take, Option, Some, None, refl, ap, sym, subst, ◌∙◌, arith}
+use Rattle.std.specs.Prelude.{slice_get, not, ◌==◌, filter}
+use Rattle.std.specs.List.{sum_by}
+use Rattle.std.proofs.lemmas.List.Sums.{sum_by-append}
+use Rattle.std.proofs.lemmas.Bool.Decides.{eqb_tells}
+use Rattle.eme_types.specs.Fed.{max_samples}
+use Rattle.eme_types.specs.declared.entry.Entry.{Entry}
+use Rattle.eme_types.specs.declared.entry.Entry.TheVariants.{Claim}
+use Rattle.cdm_state.specs.declared.track.Track.{Track}
+use Rattle.cdm_state.specs.In.{In}
+use Rattle.cdm_state.specs.TrackOf.{AreRoomy, all_left, all_awake, fed_of}
+use Rattle.cdm_state.specs.History.{Spends, Undelivered, fed_samples, fed_samples_of, MayFeedNext, samples_in}
+use Rattle.eme_types.specs.declared.media.Fragment.{Fragment}
+use Rattle.cdm_state.specs.Kept.{RoomKept, KeptAs}
+use Rattle.cdm_state.specs.Moves.{GivesOut, Sleeps, AreEmpty}
+use Rattle.cdm_state.specs.Feeds.{Grown}
+use Rattle.cdm_state.proofs.TrackLists.{awake_within}
+
+-- where the items of a list with one more stand
+pub either_place : (h : List Entry) (e : Entry) (n : ℕ) (x : Entry) → slice_get (h ++ e ∷ []) n ≡ Some x → ((slice_get h n ≡ Some x) × (take n (h ++ e ∷ []) ≡ take n h)) ⊎ ((x ≡ e) × (take n (h ++ e ∷ []) ≡ h) × (n ≡ length h))
+either_place [] e zero x at = inr (cc, refl, refl)
+either_place [] e (suc n) x at = absurd cc
+either_place (y ∷ h) e zero x at = inl (at, refl)
+either_place (y ∷ h) e (suc n) x at =
+    elim (either_place h e n x at) [ inl p ↦ inl (p.0, ap (λ ys. y ∷ ys) p.1) | inr p ↦ inr (p.0, ap (λ ys. y ∷ ys) p.1, ap suc p.2) ]
+
+pub slice_get_left : (h : List Entry) (e x : Entry) (n : ℕ) → slice_get h n ≡ Some x → slice_get (h ++ e ∷ []) n ≡ Some x
+slice_get_left [] e x n at = absurd cc
+slice_get_left (y ∷ h) e x zero at = at
+slice_get_left (y ∷ h) e x (suc n) at = slice_get_left h e x n at
+
+pub slice_get_last : (h : List Entry) (e : Entry) → slice_get (h ++ e ∷ []) (length h) ≡ Some e
+slice_get_last [] e = refl
+slice_get_last (x ∷ h) e = slice_get_last h e
+
+-- the entry is no claim
+abbrev pub IsPlain : Entry → Type 0
+IsPlain e = (worker track index session : ℕ) (kid : List ℕ) → Claim worker track index session kid ≡ e → ⊥
+
+-- a claim that waits in the longer history waited in the shorter one, and the entry did not spend it
+pub waited : (h : List Entry) (e : Entry) (c : ℕ) → IsPlain e → Undelivered (h ++ e ∷ []) c → Undelivered h c × (Spends e c → ⊥)
+waited h e c plain u =
+    elim (either_place h e (c - 1) _ u.at.1) [
+      | inl p ↦ (record { worker = u.worker; track = u.track; index = u.index; session = u.session; kid = u.kid; at = (u.at.0, p.0); none = λ n x at. u.none n x (slice_get_left h e x n at) }, u.none (length h) e (slice_get_last h e))
+      | inr p ↦ absurd (plain u.worker u.track u.index u.session u.kid p.0)
+    ]
+
+-- a claim that waits in the longer history is the new one or waited before
+pub waited_or_new : (h : List Entry) (e : Entry) (c : ℕ) → Undelivered (h ++ e ∷ []) c → Undelivered h c ⊎ (c ≡ length h + 1)
+waited_or_new h e c u =
+    elim (either_place h e (c - 1) _ u.at.1) [
+      | inl p ↦ inl (record { worker = u.worker; track = u.track; index = u.index; session = u.session; kid = u.kid; at = (u.at.0, p.0); none = λ n x at. u.none n x (slice_get_left h e x n at) })
+      | inr p ↦ inr (omega (arith, u.at.0, p.2))
+    ]
+
+pub In-left : {A : Type 0} (xs ys : List A) (x : A) → In xs x → In (xs ++ ys) x
+In-left [] ys x at = absurd at
+In-left (y ∷ xs) ys x (inl e) = inl e
+In-left (y ∷ xs) ys x (inr at) = inr (In-left xs ys x at)
+
+pub In-last : {A : Type 0} (xs : List A) (x : A) → In (xs ++ x ∷ []) x
+In-last [] x = inl refl
+In-last (y ∷ xs) x = inr (In-last xs x)
+
+abbrev pub other : ℕ → ℕ → Bool
+other place p = not (p == place)
+
+pub In-other : (xs : List ℕ) (place c : ℕ) → In xs c → (place ≡ c → ⊥) → In (filter (other place) xs) c
+In-other [] place c at ne = absurd at
+In-other (x ∷ xs) place c (inl e) ne = elim (eqb_tells x place) [ inl p ↦ absurd (ne (sym p.1 ∙ e)) | inr p ↦ rw p.0 (inl e) ]
+In-other (x ∷ xs) place c (inr at) ne = elim (eqb_tells x place) [ inl p ↦ rw p.0 (In-other xs place c at ne) | inr p ↦ rw p.0 (inr (In-other xs place c at ne)) ]
+
+fewer : (xs : List ℕ) (place : ℕ) → length (filter (other place) xs) ≤ length xs
+fewer [] place = omega arith
+fewer (x ∷ xs) place = elim (eqb_tells x place) [ inl p ↦ rw p.0 (omega (arith, fewer xs place)) | inr p ↦ rw p.0 (omega (arith, fewer xs place)) ]
+
+pub one_fewer : (xs : List ℕ) (place : ℕ) → In xs place → length (filter (other place) xs) + 1 ≤ length xs
+one_fewer [] place at = absurd at
+one_fewer (x ∷ xs) place (inl e) = elim (eqb_tells x place) [ inl p ↦ rw p.0 (omega (arith, fewer xs place)) | inr p ↦ absurd (p.1 e) ]
+one_fewer (x ∷ xs) place (inr at) = elim (eqb_tells x place) [ inl p ↦ rw p.0 (omega (arith, one_fewer xs place at)) | inr p ↦ rw p.0 (omega (arith, one_fewer xs place at)) ]
+
+pub some_in : (xs : List ℕ) (place : ℕ) → In xs place → 1 ≤ length xs
+some_in [] place at = absurd at
+some_in (x ∷ xs) place at = omega arith
+
+fed_more : (h : List Entry) (e : Entry) → fed_samples (h ++ e ∷ []) ≡ fed_samples h + fed_samples_of e
+fed_more h e = sum_by-append fed_samples_of h (e ∷ []) ∙ omega arith
+
+-- after an entry that is no claim, feeds nothing and leaves the places
+pub kept_more : (h g : List Entry) (e : Entry) (ts us : List Track) (places : List ℕ) → g ≡ h ++ e ∷ [] → IsPlain e → fed_samples_of e ≡ 0 → sum_by fed_of us ≤ sum_by fed_of ts → KeptAs h ts places → KeptAs g us places
+kept_more h g e ts us places is plain none le kept = rw is (record {
+  limit = omega (arith, fed_more h e, none, kept.limit);
+  fed = omega (arith, fed_more h e, none, kept.fed, le);
+  waits = λ c u. kept.waits c (waited h e c plain u).0;
+})
+
+pub kept_fed : (h g : List Entry) (e : Entry) (ts us : List Track) (places : List ℕ) (n : ℕ) → g ≡ h ++ e ∷ [] → IsPlain e → fed_samples_of e ≡ n → fed_samples h + n ≤ max_samples → sum_by fed_of us ≤ sum_by fed_of ts + n → KeptAs h ts places → KeptAs g us places
+kept_fed h g e ts us places n is plain some limit le kept = rw is (record {
+  limit = omega (arith, fed_more h e, some, limit);
+  fed = omega (arith, fed_more h e, some, kept.fed, le);
+  waits = λ c u. kept.waits c (waited h e c plain u).0;
+})
+
+pub kept_claim : (h g : List Entry) (e : Entry) (ts : List Track) (places more : List ℕ) (place : ℕ) → g ≡ h ++ e ∷ [] → fed_samples_of e ≡ 0 → place ≡ length h + 1 → more ≡ places ++ place ∷ [] → KeptAs h ts places → KeptAs g ts more
+kept_claim h g e ts places more place is none here added kept = rw (is, added) (record {
+  limit = omega (arith, fed_more h e, none, kept.limit);
+  fed = omega (arith, fed_more h e, none, kept.fed);
+  waits = λ c u. elim (waited_or_new h e c u) [
+    | inl b ↦ In-left places (place ∷ []) c (kept.waits c b)
+    | inr n ↦ (let same : place ≡ c = here ∙ sym n in subst (λ (x : ℕ). In (places ++ place ∷ []) x) same (In-last places place))
+  ];
+})
+
+pub kept_spent : (h g : List Entry) (e : Entry) (ts : List Track) (places fewer : List ℕ) (place : ℕ) → g ≡ h ++ e ∷ [] → IsPlain e → fed_samples_of e ≡ 0 → Spends e place → fewer ≡ filter (other place) places → KeptAs h ts places → KeptAs g ts fewer
+kept_spent h g e ts places fewer place is plain none spends less kept = rw (is, less) (record {
+  limit = omega (arith, fed_more h e, none, kept.limit);
+  fed = omega (arith, fed_more h e, none, kept.fed);
+  waits = λ c u. (let w = waited h e c plain u in In-other places place c (kept.waits c w.0) (λ same. w.1 (subst (λ (x : ℕ). Spends e x) same spends)));
+})
+
+-- room after a step that reserved it, and then took one entry
+pub room_stepped : (ts : List Track) (w n m k a b : ℕ) → AreRoomy ts → w + length ts + all_left ts + 1 ≤ a → w + length ts + all_left ts + 1 ≤ b → a ≤ n + 1 → b ≤ m + 1 → all_awake ts ≤ k → RoomKept n m k ts w
+room_stepped ts w n m k a b roomy h e hn em le = record {
+  history = omega (arith, awake_within ts, h, hn);
+  effects = omega (arith, awake_within ts, e, em);
+  events = le;
+  tracks = roomy;
+}
+
+-- room after a claim was delivered or given up
+pub room_spent : (ts : List Track) (w v n m k a b : ℕ) → v + 1 ≤ w → n ≤ a + 1 → m ≤ b + 1 → RoomKept n m k ts w → RoomKept a b k ts v
+room_spent ts w v n m k a b less na mb room = record {
+  history = omega (arith, room.history, less, na);
+  effects = omega (arith, room.effects, less, mb);
+  events = room.events;
+  tracks = room.tracks;
+}
+
+-- room after a publication
+pub room_out : (ts us : List Track) (w n m k a b : ℕ) → GivesOut ts us → n ≤ a + 1 → m ≤ b + 1 → RoomKept n m k ts w → RoomKept a b k us w
+room_out ts us w n m k a b out na mb room = record {
+  history = omega (arith, room.history, out.left, out.awake, na);
+  effects = omega (arith, room.effects, out.left, out.awake, mb);
+  events = omega (arith, room.events, out.awake);
+  tracks = out.roomy;
+}
+
+-- room after a track began to wait
+pub room_asleep : (ts us : List Track) (w n m k a b c : ℕ) → Sleeps ts us → n ≤ a + 1 → m ≤ b + 1 → k ≤ c + 1 → RoomKept n m k ts w → RoomKept a b c us w
+room_asleep ts us w n m k a b c asleep na mb kc room = record {
+  history = omega (arith, room.history, asleep.left, asleep.awake, na);
+  effects = omega (arith, room.effects, asleep.left, asleep.awake, mb);
+  events = omega (arith, room.events, asleep.awake, kc);
+  tracks = asleep.roomy room.tracks;
+}
+
+-- room after a feed
+pub room_fed : (ts us : List Track) (w x n m k a b : ℕ) → Grown ts us x → AreRoomy ts → w + length ts + all_left ts + (x + 1) ≤ a → w + length ts + all_left ts + (x + 1) ≤ b → a ≤ n + 1 → b ≤ m + 1 → length ts ≤ k → RoomKept n m k us w
+room_fed ts us w x n m k a b g roomy h e hn em le = record {
+  history = omega (arith, awake_within ts, g.left, g.awake, h, hn);
+  effects = omega (arith, awake_within ts, g.left, g.awake, e, em);
+  events = omega (arith, awake_within ts, g.awake, le);
+  tracks = g.roomy roomy;
+}
+
+pub fed_limit : (ids : List ℕ) (h : List Entry) (f : Option Fragment) → fed_samples h ≤ max_samples → MayFeedNext ids h f → fed_samples h + samples_in f ≤ max_samples
+fed_limit ids h None few may = omega (arith, few)
+fed_limit ids h (Some f) few may = may.samples
+
+pub kept_new : (h : List Entry) (ts : List Track) (places ids : List ℕ) → h ≡ [] → AreEmpty ts ids → KeptAs h ts places
+kept_new h ts places ids none e = rw none (record {
+  limit = omega arith;
+  fed = omega (arith, e.fed);
+  waits = λ c u. absurd (nothing (c - 1) _ u.at.1);
+})
+  where
+    nothing : (n : ℕ) (x : Entry) → slice_get [] n ≡ Some x → ⊥
+    nothing n x e = cc

@@ -1,0 +1,31 @@
+-- Key tables, as loops read and change them.
+use Rattle.std.proofs.Common.{zero, suc, ◌≡◌, ℕ, ◌+◌, ◌<◌, true, false, List, [], ◌∷◌, ◌++◌, map, length, get_or, set, take, drop, refl, ap, arith, add-one, Some}
+use Rattle.std.specs.Str.{bytes_eq}
+use Rattle.eme_types.specs.declared.kid.KeyBytes.{KeyBytes}
+use Rattle.cdm_state.specs.declared.table.KnownKey.{KnownKey}
+use Rattle.cdm_state.specs.Table.{grant_in, known_with}
+use Rattle.cdm_state.specs.Loops.{Unknown}
+
+pub grant_last : (table : List KnownKey) (kid : List ℕ) → Unknown table kid → (key : KeyBytes) → grant_in table kid key ≡ table ++ known_with kid key ∷ []
+grant_last [] kid un key = refl
+grant_last (k ∷ ks) kid un key = rw un.0 (ap (λ ys. k ∷ ys) (grant_last ks kid un.1 key))
+
+pub grant_at : (table : List KnownKey) (kid : List ℕ) (i : ℕ) (e : KnownKey) → i < length table → Unknown (take i table) kid → bytes_eq (get_or table i e).kid kid ≡ true → (key : KeyBytes) (d : KnownKey) → grant_in table kid key ≡ set table i (let was = get_or table i d in record was { key = Some key })
+grant_at [] kid i e lt un is key d = absurd (omega arith)
+grant_at (k ∷ ks) kid zero e lt un is key d = rw is refl
+grant_at (k ∷ ks) kid (suc i) e lt un is key d = rw un.0 (ap (λ ys. k ∷ ys) (grant_at ks kid i e (omega arith) un.1 is key d))
+
+pub unknown_more : (table : List KnownKey) (kid : List ℕ) (i : ℕ) (e : KnownKey) → i < length table → Unknown (take i table) kid → bytes_eq (get_or table i e).kid kid ≡ false → Unknown (take (i + 1) table) kid
+unknown_more table kid i e lt un is = rw add-one (go table kid i e lt un is) where
+  go : (table : List KnownKey) (kid : List ℕ) (i : ℕ) (e : KnownKey) → i < length table → Unknown (take i table) kid → bytes_eq (get_or table i e).kid kid ≡ false → Unknown (take (suc i) table) kid
+  go [] kid i e lt un is = tt
+  go (k ∷ ks) kid zero e lt un is = (is, tt)
+  go (k ∷ ks) kid (suc i) e lt un is = (un.0, go ks kid i e (omega arith) un.1 is)
+
+-- the items before the index are changed
+pub map_more : (f : KnownKey → KnownKey) (xs ys : List KnownKey) (i : ℕ) (d : KnownKey) → i < length xs → ys ≡ map f (take i xs) ++ drop i xs → set ys i (f (get_or ys i d)) ≡ map f (take (i + 1) xs) ++ drop (i + 1) xs
+map_more f xs ys i d lt e = rw (add-one, e) (go xs i lt) where
+  go : (xs : List KnownKey) (i : ℕ) → i < length xs → set (map f (take i xs) ++ drop i xs) i (f (get_or (map f (take i xs) ++ drop i xs) i d)) ≡ map f (take (suc i) xs) ++ drop (suc i) xs
+  go [] i lt = absurd (omega arith)
+  go (x ∷ xs) zero lt = refl
+  go (x ∷ xs) (suc i) lt = ap (λ zs. f x ∷ zs) (go xs i (omega arith))
