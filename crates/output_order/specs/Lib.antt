@@ -1,0 +1,6 @@
+pub mod Log
+pub mod Summary
+pub mod TrackFile
+pub mod Lane
+pub mod Complete
+pub mod Staffed

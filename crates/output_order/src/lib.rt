@@ -1,0 +1,13 @@
+//! The texts of a history, and what makes one complete.
+#![tactic(auto)]
+
+mod effect;
+mod entry;
+mod log;
+mod names;
+mod summary;
+mod track;
+
+pub use log::log_text;
+pub use summary::summary_text;
+pub use track::track_bytes;

@@ -1,0 +1,160 @@
+// The summary of a history.
+ghost use Rattle.std.specs.Prelude.{◌≡◌, ◌+◌, ◌≤◌, IfOk, string_bytes, length, count_by, not};
+ghost use Rattle.cdm_state.specs.Settlements.{is_call as is_call_of, calls_in};
+ghost use Rattle.cdm_state.specs.Tracks.{find_track};
+ghost use Rattle.cdm_state.specs.History.{world};
+ghost use Rattle.output_order.specs.Summary.{is_resolved as is_resolved_of, is_rejected as is_rejected_of, resolves as resolves_of, rejects as rejects_of, times_resolved, times_rejected, waits, yes_or_no, track_line, summary_head, summary_of};
+
+use crate::log::effects_at;
+use crate::track::{Sizes, sizes_out};
+use cdm_state::Cdm;
+use eme_types::{Bytes, Effect, Entry, Settled};
+use std::alloc::{AllocError, Global};
+
+fn is_rejected(how: &Settled) -> bool
+    ensures rejected { result ≡ is_rejected_of how.now }
+    ensures resolved { not result ≡ is_resolved_of how.now }
+{
+    match how {
+        Settled::Resolved => false,
+        Settled::ResolvedFalse => false,
+        Settled::ResolvedConfig(_) => false,
+        Settled::Rejected(_) => true,
+    }
+}
+
+fn resolves(effect: &Effect) -> bool
+    ensures { result ≡ resolves_of effect.now }
+{
+    match effect {
+        Effect::Statuses {
+            session: _,
+            list: _,
+        } => false,
+        Effect::Closed { session: _ } => false,
+        Effect::Promise { promise: _, how } => !is_rejected(how),
+        Effect::Fired { event: _ } => false,
+    }
+}
+
+fn rejects(effect: &Effect) -> bool
+    ensures { result ≡ rejects_of effect.now }
+{
+    match effect {
+        Effect::Statuses {
+            session: _,
+            list: _,
+        } => false,
+        Effect::Closed { session: _ } => false,
+        Effect::Promise { promise: _, how } => is_rejected(how),
+        Effect::Fired { event: _ } => false,
+    }
+}
+
+fn count_resolved(effects: &[Effect]) -> usize
+    ensures { result ≡ count_by resolves_of effects.now }
+{
+    effects.iter().filter(|effect| resolves(effect)).count()
+}
+
+fn count_rejected(effects: &[Effect]) -> usize
+    ensures { result ≡ count_by rejects_of effects.now }
+{
+    effects.iter().filter(|effect| rejects(effect)).count()
+}
+
+/// 1 for a call, 0 for another entry.
+fn calls_of(entry: &Entry) -> u64
+    ensures { result ≡ is_call_of entry.now }
+{
+    match entry {
+        Entry::Call {
+            lane: _,
+            line: _,
+            call: _,
+        } => 1,
+        _ => 0,
+    }
+}
+
+/// A sum of sizes of what memory holds.
+fn add(a: u64, b: usize) -> Result<u64, AllocError>
+    ensures { IfOk result (λ sum. sum ≡ a + b) }
+{
+    match a.checked_add(b as u64) {
+        Some(sum) => Ok(sum),
+        None => Err(AllocError),
+    }
+}
+
+/// The promises of a history.
+#[derive(Clone, Copy)]
+struct Promises {
+    made: u64,
+    resolved: u64,
+    rejected: u64,
+}
+
+fn count_promises(cdm: &Cdm) -> Result<Promises, AllocError>
+    ensures made { IfOk result (λ p. p.made ≡ calls_in cdm.now.history) }
+    ensures resolved { IfOk result (λ p. p.resolved ≡ times_resolved cdm.now.tracks cdm.now.history) }
+    ensures rejected { IfOk result (λ p. p.rejected ≡ times_rejected cdm.now.tracks cdm.now.history) }
+{
+    let mut made = 0;
+    let mut resolved = 0;
+    let mut rejected = 0;
+    let history = cdm.history();
+    for (i, entry) in history.iter().enumerate() {
+        let effects = effects_at(cdm, i as u64 + 1);
+        made += calls_of(entry);
+        resolved = add(resolved, count_resolved(effects))?;
+        rejected = add(rejected, count_rejected(effects))?;
+    }
+    Ok(Promises {
+        made,
+        resolved,
+        rejected,
+    })
+}
+
+fn waiting_name(cdm: &Cdm, track: u32) -> &'static str
+    ensures { result.now ≡ yes_or_no (waits (find_track (world cdm.now.tracks cdm.now.history).tracks track)) }
+{
+    if cdm.waiting(track) { "yes" } else { "no" }
+}
+
+fn track_text(alloc: Global, cdm: &Cdm, track: u32) -> Result<String, AllocError>
+    ensures { IfOk result (λ s. string_bytes s ≡ track_line cdm.now.tracks cdm.now.history track) }
+{
+    let Sizes { samples, bytes } = sizes_out(cdm, track)?;
+    let waiting = waiting_name(cdm, track);
+    format!(in alloc; "track {track} samples {samples} bytes {bytes} waiting {waiting}\n")
+}
+
+fn head_text(alloc: Global, cdm: &Cdm) -> Result<String, AllocError>
+    ensures { IfOk result (λ s. string_bytes s ≡ summary_head cdm.now.tracks cdm.now.history) }
+{
+    let Promises {
+        made,
+        resolved,
+        rejected,
+    } = count_promises(cdm)?;
+    let entries = cdm.history().len();
+    format!(in alloc;
+        "entries {entries}\npromises {made} resolved {resolved} rejected {rejected}\n"
+    )
+}
+
+/// The summary of the core's history.
+pub fn summary_text(alloc: Global, cdm: &Cdm) -> Result<Bytes, AllocError>
+    ensures { IfOk result (λ text. text ≡ summary_of cdm.now.tracks cdm.now.history) }
+{
+    let mut out = Bytes::new(alloc);
+    let head = head_text(alloc, cdm)?;
+    out.extend_from_slice(head.as_bytes())?;
+    for track in cdm.tracks().as_slice() {
+        let line = track_text(alloc, cdm, *track)?;
+        out.extend_from_slice(line.as_bytes())?;
+    }
+    Ok(out)
+}
