@@ -1,0 +1,169 @@
+-- Steps, one after the other.
+use Rattle.std.proofs.Common.{zero, suc, ◌≡◌, ℕ, ◌+◌, ◌-◌, List, [], ◌∷◌, ◌++◌, Some, length, slice_get, inl, inr, refl, ap, ◌∙◌, sym, subst, append_assoc, append-nil, arith}
+use Rattle.std.specs.Prelude.{◌⊎◌}
+use Rattle.std.specs.List.{AllByRecursion}
+use Rattle.std.proofs.lemmas.List.Sums.{fold-append}
+use Rattle.eme_types.specs.declared.entry.Entry.{Entry}
+use Rattle.eme_types.specs.declared.entry.Entry.TheVariants.{Claim, Deliver, Settle}
+use Rattle.eme_types.specs.declared.entry.Verdict.{Verdict}
+use Rattle.eme_types.specs.declared.entry.Verdict.TheVariants.{Taken as TakenVerdict, Stale as StaleVerdict}
+use Rattle.cdm_state.specs.declared.claim.Delivered.{Delivered}
+use Rattle.cdm_state.specs.declared.claim.Delivered.TheVariants.{Taken, Stale}
+use Rattle.cdm_state.specs.Contract.{Delivers}
+use Rattle.cdm_state.specs.World.{empty_world, after_entry}
+use Rattle.cdm_state.specs.History.{world, AtRest, Undelivered, MayClaim, MayPublish, MayPassClear, MayWait}
+use Rattle.cdm_state.specs.Run.{Run, with_entry}
+use Rattle.cdm_state.specs.Progress.{NoneWaits, NothingToDo}
+use Rattle.player_core.specs.Course.{IsStep, more_history, Steps, Goes, Settles}
+
+pub all_append : {X : Type 0} (P : X → Type 0) (xs ys : List X) → AllByRecursion P xs → AllByRecursion P ys → AllByRecursion P (xs ++ ys)
+all_append P [] ys a b = b
+all_append P (x ∷ xs) ys a b = (a.0, all_append P xs ys a.1 b)
+
+more_twice : (r : Run) (xs ys : List Entry) → more_history (more_history r xs) ys ≡ more_history r (xs ++ ys)
+more_twice r xs ys = ap (λ (h : List Entry). let s : Run = record r { history = h } in s) (append_assoc r.history xs ys)
+
+-- an item of a list with one more at its end
+pub push_cases : {A : Type 0} (xs : List A) (x : A) (k : ℕ) (y : A) → slice_get (xs ++ x ∷ []) k ≡ Some y → (slice_get xs k ≡ Some y) ⊎ ((k ≡ length xs) × (y ≡ x))
+push_cases [] x zero y at = inr (refl, cc)
+push_cases [] x (suc k) y at = absurd cc
+push_cases (z ∷ xs) x zero y at = inl at
+push_cases (z ∷ xs) x (suc k) y at =
+    elim (push_cases xs x k y at) [ inl there ↦ inl there | inr end ↦ inr (ap suc end.0, end.1) ]
+
+push_left : {A : Type 0} (xs : List A) (x : A) (k : ℕ) (y : A) → slice_get xs k ≡ Some y → slice_get (xs ++ x ∷ []) k ≡ Some y
+push_left [] x k y at = absurd cc
+push_left (z ∷ xs) x zero y at = at
+push_left (z ∷ xs) x (suc k) y at = push_left xs x k y at
+
+push_last : {A : Type 0} (xs : List A) (x : A) → slice_get (xs ++ x ∷ []) (length xs) ≡ Some x
+push_last [] x = refl
+push_last (z ∷ xs) x = push_last xs x
+
+-- the entry is no claim
+abbrev pub IsPlain : Entry → Type 0
+IsPlain e = (worker track index session : ℕ) (kid : List ℕ) → Claim worker track index session kid ≡ e → ⊥
+
+still_waits : (h : List Entry) (e : Entry) (c : ℕ) (u : Undelivered (h ++ e ∷ []) c) → slice_get h (c - 1) ≡ Some (Claim u.worker u.track u.index u.session u.kid) → Undelivered h c
+still_waits h e c u at = record { worker = u.worker; track = u.track; index = u.index; session = u.session; kid = u.kid; at = (u.at.0, at); none = λ n x there. u.none n x (push_left h e n x there) }
+
+-- an entry that is no claim leaves none to wait
+pub none_waits : (h : List Entry) (e : Entry) → IsPlain e → NoneWaits h → NoneWaits (h ++ e ∷ [])
+none_waits h e plain none c u =
+    elim (push_cases h e (c - 1) (Claim u.worker u.track u.index u.session u.kid) u.at.1) [
+      | inl there ↦ none c (still_waits h e c u there)
+      | inr new ↦ plain u.worker u.track u.index u.session u.kid new.1
+    ]
+
+waits_or_new : (h : List Entry) (e : Entry) (c : ℕ) → Undelivered (h ++ e ∷ []) c → Undelivered h c ⊎ (c ≡ length h + 1)
+waits_or_new h e c u =
+    elim (push_cases h e (c - 1) (Claim u.worker u.track u.index u.session u.kid) u.at.1) [
+      | inl there ↦ inl (still_waits h e c u there)
+      | inr new ↦ inr (omega (arith, u.at.0, new.0))
+    ]
+
+-- nor do a claim and its delivery
+both_wait : (h : List Entry) (e : Entry) (place : ℕ) (verdict : Verdict) → place ≡ length h + 1 → NoneWaits h → NoneWaits ((h ++ e ∷ []) ++ Deliver place verdict ∷ [])
+both_wait h e place verdict here none c u =
+    elim (waits_or_new (h ++ e ∷ []) (Deliver place verdict) c u) [
+      | inl before ↦ elim (waits_or_new h e c before) [
+        | inl old ↦ none c old
+        | inr new ↦ u.none (length (h ++ e ∷ [])) (Deliver place verdict) (push_last (h ++ e ∷ []) (Deliver place verdict)) (here ∙ sym new)
+      ]
+      | inr late ↦ elim (push_cases (h ++ e ∷ []) (Deliver place verdict) (c - 1) (Claim u.worker u.track u.index u.session u.kid) u.at.1) [
+        | inl there ↦ absurd (let le : length (h ++ e ∷ []) ≡ length (h ++ e ∷ []) = refl in past (h ++ e ∷ []) (c - 1) (Claim u.worker u.track u.index u.session u.kid) (omega (arith, late)) there)
+        | inr new ↦ (let clash = new.1 in absurd cc)
+      ]
+    ]
+  where
+    past : (xs : List Entry) (k : ℕ) (x : Entry) → k ≡ length xs → slice_get xs k ≡ Some x → ⊥
+    past [] k x end at = absurd cc
+    past (y ∷ xs) zero x end at = absurd (omega (arith, end))
+    past (y ∷ xs) (suc k) x end at = past xs k x (omega (arith, end)) at
+
+delivered_in : (old mid new : Run) (e : Entry) → mid ≡ old → new ≡ with_entry mid e → IsPlain e → NoneWaits old.history → NoneWaits new.history
+delivered_in old mid new e same is plain none =
+    subst (λ (r : Run). NoneWaits r.history) (sym (is ∙ ap (λ (r : Run). with_entry r e) same)) (none_waits old.history e plain none)
+
+pub step_one : (old mid new : Run) (e : Entry) → mid ≡ old → new ≡ with_entry mid e → IsStep e → IsPlain e → Steps old new
+step_one old mid new e same is one plain = record {
+  taken = e ∷ [];
+  is = is ∙ ap (λ (r : Run). with_entry r e) same;
+  steps = (one, tt);
+  delivered = delivered_in old mid new e same is plain;
+}
+
+pub steps_none : (r : Run) → Steps r r
+steps_none r = record {
+  taken = [];
+  is = ap (λ (h : List Entry). let s : Run = record r { history = h } in s) (sym (append-nil r.history));
+  steps = tt;
+  delivered = λ none. none;
+}
+
+pub steps_more : (old mid new : Run) → Steps old mid → Steps mid new → Steps old new
+steps_more old mid new a b = record {
+  taken = a.taken ++ b.taken;
+  is = b.is ∙ (ap (λ (r : Run). more_history r b.taken) a.is ∙ more_twice old a.taken b.taken);
+  steps = all_append IsStep a.taken b.taken a.steps b.steps;
+  delivered = λ none. b.delivered (a.delivered none);
+}
+
+-- a claim and its delivery
+two_steps : (old mid claimed new : Run) (e : Entry) (place : ℕ) (verdict : Verdict) → mid ≡ old → claimed ≡ with_entry mid e → new ≡ with_entry claimed (Deliver place verdict) → place ≡ length mid.history + 1 → IsStep e → Steps old new
+two_steps old mid claimed new e place verdict same is then here one =
+    let all : new ≡ with_entry (with_entry old e) (Deliver place verdict) = then ∙ ap (λ (r : Run). with_entry r (Deliver place verdict)) (is ∙ ap (λ (r : Run). with_entry r e) same) in
+    let at : place ≡ length old.history + 1 = here ∙ ap (λ (r : Run). length r.history + 1) same in
+    record {
+      taken = e ∷ (Deliver place verdict ∷ []);
+      is = all ∙ more_twice old (e ∷ []) (Deliver place verdict ∷ []);
+      steps = (one, (tt, tt));
+      delivered = λ none. subst (λ (r : Run). NoneWaits r.history) (sym all) (both_wait old.history e place verdict at none);
+    }
+
+pub claim_steps : (old mid claimed new : Run) (e : Entry) (place : ℕ) (clear : List ℕ) (how : Delivered) → mid ≡ old → claimed ≡ with_entry mid e → place ≡ length mid.history + 1 → IsStep e → Delivers claimed place clear how new → Steps old new
+claim_steps old mid claimed new e place clear Taken same is here one did = two_steps old mid claimed new e place TakenVerdict same is did.1 here one
+claim_steps old mid claimed new e place clear (Stale back) same is here one did = two_steps old mid claimed new e place StaleVerdict same is did.1 here one
+
+pub goes_now : (old mid new : Run) (e : Entry) → mid ≡ old → new ≡ with_entry mid e → IsPlain e → Goes old new e
+goes_now old mid new e same is plain = record {
+  taken = [];
+  is = is ∙ ap (λ (r : Run). with_entry r e) same;
+  steps = tt;
+  delivered = delivered_in old mid new e same is plain;
+}
+
+pub goes_after : (old mid new : Run) (e : Entry) → Steps old mid → Goes mid new e → Goes old new e
+goes_after old mid new e a b = record {
+  taken = a.taken ++ b.taken;
+  is = b.is ∙ (ap (λ (r : Run). more_history r (b.taken ++ e ∷ [])) a.is ∙ (more_twice old a.taken (b.taken ++ e ∷ []) ∙ ap (λ es. more_history old es) (sym (append_assoc a.taken b.taken (e ∷ [])))));
+  steps = all_append IsStep a.taken b.taken a.steps b.steps;
+  delivered = λ none. b.delivered (a.delivered none);
+}
+
+world_settled : (ids : List ℕ) (h : List Entry) (line : ℕ) → world ids (h ++ Settle line ∷ []) ≡ world ids h
+unfolding world
+world_settled ids h line = fold-append after_entry (empty_world ids) h (Settle line ∷ [])
+
+pub settles_now : (old mid new : Run) (line : ℕ) → mid ≡ old → new ≡ with_entry mid (Settle line) → AtRest (world mid.tracks mid.history) → Settles old new line
+settles_now old mid new line same is rest = record {
+  goes = goes_now old mid new (Settle line) same is (λ w t i n k x. cc);
+  rest = subst (λ (r : Run). AtRest (world r.tracks r.history)) (sym is) (subst AtRest (sym (world_settled mid.tracks mid.history line)) rest);
+}
+
+pub settles_after : (old mid new : Run) (line : ℕ) → Steps old mid → Settles mid new line → Settles old new line
+settles_after old mid new line a b = record { goes = goes_after old mid new (Settle line) a b.goes; rest = b.rest }
+
+pub settles_same : (old mid new : Run) (line : ℕ) → mid ≡ old → Settles mid new line → Settles old new line
+settles_same old mid new line same s = subst (λ (r : Run). Settles r new line) same s
+
+-- the refusals of all steps, each of which left the core as it was
+pub nothing_to_do : (now job task publish pass claim wait : Run) → job ≡ now → task ≡ job → publish ≡ task → pass ≡ publish → claim ≡ pass → wait ≡ claim → (world now.tracks now.history).machine.jobs ≡ [] → (world job.tracks job.history).machine.tasks ≡ [] → ((track index place : ℕ) → MayPublish task.tracks task.history track index place → ⊥) → ((track index : ℕ) → MayPassClear publish.tracks publish.history track index → ⊥) → ((track index session : ℕ) (kid : List ℕ) → MayClaim pass.tracks pass.history track index session kid → ⊥) → ((track : ℕ) → MayWait claim.tracks claim.history track → ⊥) → NothingToDo wait.tracks wait.history
+nothing_to_do now job task publish pass claim wait a b c d e f jobs tasks published passed claimed waited = record {
+  jobs = subst (λ (r : Run). (world r.tracks r.history).machine.jobs ≡ []) (sym (f ∙ (e ∙ (d ∙ (c ∙ (b ∙ a)))))) jobs;
+  tasks = subst (λ (r : Run). (world r.tracks r.history).machine.tasks ≡ []) (sym (f ∙ (e ∙ (d ∙ (c ∙ b))))) tasks;
+  publish = subst (λ (r : Run). (track index place : ℕ) → MayPublish r.tracks r.history track index place → ⊥) (sym (f ∙ (e ∙ (d ∙ c)))) published;
+  pass = subst (λ (r : Run). (track index : ℕ) → MayPassClear r.tracks r.history track index → ⊥) (sym (f ∙ (e ∙ d))) passed;
+  claim = subst (λ (r : Run). (track index session : ℕ) (kid : List ℕ) → MayClaim r.tracks r.history track index session kid → ⊥) (sym (f ∙ e)) claimed;
+  wait = subst (λ (r : Run). (track : ℕ) → MayWait r.tracks r.history track → ⊥) (sym f) waited;
+}

@@ -1,0 +1,150 @@
+-- How far a play has come.
+use Rattle.std.specs.Prelude.{ℕ, ◌+◌, ◌≡◌, ◌≤◌, List, [], ◌∷◌, ◌++◌, length, take, drop, Option, Some, None, IsTrue}
+use Rattle.std.specs.List.{fold, sum_by, AllByRecursion}
+use Rattle.eme_types.specs.declared.media.Fragment.{Fragment}
+use Rattle.eme_types.specs.declared.media.Media.{Media}
+use Rattle.eme_types.specs.declared.entry.Entry.{Entry}
+use Rattle.eme_types.specs.declared.entry.Entry.TheVariants.{Call, Job, Task, Tick, Feed, Claim, Deliver, GiveUp, Publish, PassClear, WaitForKey, Settle}
+use Rattle.eme_types.specs.Fed.{are_distinct, fragment_samples, fragment_bytes}
+use Rattle.script_lang.specs.declared.script.Line.{Line}
+use Rattle.script_lang.specs.declared.script.Action.{Action}
+use Rattle.script_lang.specs.declared.script.Action.TheVariants.{Ask, Feed as FeedAction, Clock, Settle as SettleAction}
+use Rattle.script_lang.specs.Script.{moment_after}
+use Rattle.cdm_state.specs.Calls.{IsBuilt}
+use Rattle.cdm_state.specs.Run.{Run}
+use Rattle.cdm_state.specs.History.{world, AtRest, MayFeedNext, fed_samples, fed_bytes}
+use Rattle.cdm_state.specs.Moment.{last_moment}
+use Rattle.cdm_state.specs.Progress.{NoneWaits}
+use Rattle.output_order.specs.Lane.{lines_in, asked_in, feeds_in}
+use Rattle.output_order.specs.Complete.{FeedsBegun, IsOfLine, feed_rest, implied}
+
+-- the action is built; negotiation of access is to come
+abbrev pub IsBuiltAction : Action → Type 0
+IsBuiltAction (Ask call) = IsBuilt call
+IsBuiltAction FeedAction = Unit {0}
+IsBuiltAction (Clock moment) = Unit {0}
+IsBuiltAction SettleAction = Unit {0}
+
+abbrev pub IsBuiltLine : Line → Type 0
+IsBuiltLine line = IsBuiltAction line.action
+
+-- the script asks for nothing that is not built
+abbrev pub IsBuiltScript : List Line → Type 0
+IsBuiltScript script = AllByRecursion IsBuiltLine script
+
+-- the entry of an action; a feed gives the fragment
+abbrev pub entry_for : ℕ → ℕ → Action → Option Fragment → Entry
+entry_for number lane (Ask call) given = Call lane number call
+entry_for number lane FeedAction given = Feed number given
+entry_for number lane (Clock moment) given = Tick number moment
+entry_for number lane SettleAction given = Settle number
+
+-- the entry of a line
+abbrev pub entry_of : Line → Option Fragment → Entry
+entry_of line given = entry_for line.number line.lane line.action given
+
+-- a step that is no line's, taken by one thread: its claims name worker 0, and it gives none up
+abbrev pub IsStep : Entry → Type 0
+IsStep (Call lane line call) = ⊥
+IsStep Job = Unit {0}
+IsStep Task = Unit {0}
+IsStep (Tick line moment) = ⊥
+IsStep (Feed line fragment) = ⊥
+IsStep (Claim worker track index session kid) = worker ≡ 0
+IsStep (Deliver place verdict) = Unit {0}
+IsStep (GiveUp place) = ⊥
+IsStep (Publish track index place) = Unit {0}
+IsStep (PassClear track index) = Unit {0}
+IsStep (WaitForKey track) = Unit {0}
+IsStep (Settle line) = ⊥
+
+abbrev pub more_history : Run → List Entry → Run
+more_history r es = record r { history = r.history ++ es }
+
+-- steps were taken, each claim with its delivery
+pub record Steps (old new : Run) : Type 0 where
+  pub taken : List Entry
+  pub is : new ≡ more_history old taken
+  pub steps : AllByRecursion IsStep taken
+  pub delivered : NoneWaits old.history → NoneWaits new.history
+
+-- steps were taken, each claim with its delivery, and then the entry came
+pub record Goes (old new : Run) (entry : Entry) : Type 0 where
+  pub taken : List Entry
+  pub is : new ≡ more_history old (taken ++ entry ∷ [])
+  pub steps : AllByRecursion IsStep taken
+  pub delivered : NoneWaits old.history → NoneWaits new.history
+
+-- steps, and then the settle of a line, after which the core is at rest
+pub record Settles (old new : Run) (line : ℕ) : Type 0 where
+  pub goes : Goes old new (Settle line)
+  pub rest : AtRest (world new.tracks new.history)
+
+-- what the action needs; `given` is what a feed gives
+abbrev pub MayGo : Run → Action → Option Fragment → Type 0
+MayGo r (Ask call) given = IsBuilt call
+MayGo r FeedAction given = MayFeedNext r.tracks r.history given
+MayGo r (Clock moment) given = (world r.tracks r.history).machine.moment ≤ moment
+MayGo r SettleAction given = NoneWaits r.history × IsTrue (are_distinct r.tracks)
+
+-- the number of the next fragment, from 0, after a feed
+abbrev pub next_after : ℕ → Option Fragment → ℕ
+next_after next None = next
+next_after next (Some f) = next + 1
+
+-- and after an action
+abbrev pub next_by : ℕ → Action → Option Fragment → ℕ
+next_by next (Ask call) given = next
+next_by next FeedAction given = next_after next given
+next_by next (Clock moment) given = next
+next_by next SettleAction given = next
+
+abbrev pub moment_by : ℕ → Line → ℕ
+moment_by last line = moment_after last line.action
+
+-- the moment after these lines
+abbrev pub moment_of : List Line → ℕ
+moment_of lines = fold moment_by 0 lines
+
+-- an entry that a play on one thread may have
+abbrev pub IsAlone : Entry → Type 0
+IsAlone (Call lane line call) = lane ≤ 7
+IsAlone Job = Unit {0}
+IsAlone Task = Unit {0}
+IsAlone (Tick line moment) = Unit {0}
+IsAlone (Feed line fragment) = Unit {0}
+IsAlone (Claim worker track index session kid) = worker ≡ 0
+IsAlone (Deliver place verdict) = Unit {0}
+IsAlone (GiveUp place) = ⊥
+IsAlone (Publish track index place) = Unit {0}
+IsAlone (PassClear track index) = Unit {0}
+IsAlone (WaitForKey track) = Unit {0}
+IsAlone (Settle line) = Unit {0}
+
+-- what a play has fed: `next` fragments of the media, and none past the last
+pub record HasFed (media : Media) (next : ℕ) (r : Run) : Type 0 where
+  pub tracks : r.tracks ≡ media.tracks
+  pub feeds : FeedsBegun media.fragments r.history
+  pub within : next ≤ length media.fragments
+  pub passed : next ≤ length (feeds_in r.history)
+  pub left : drop (length (feeds_in r.history)) media.fragments ≡ drop next media.fragments
+  pub samples : fed_samples r.history ≡ sum_by fragment_samples (take next media.fragments)
+  pub bytes : fed_bytes r.history ≡ sum_by fragment_bytes (take next media.fragments)
+  pub alone : AllByRecursion IsAlone r.history
+  pub delivered : NoneWaits r.history
+
+-- a play has gone through the first n lines, in order
+pub record HasGone (script : List Line) (media : Media) (n next : ℕ) (r : Run) : Type 0 where
+  pub fed : HasFed media next r
+  pub lines : lines_in r.history ≡ take n script
+  pub above : AllByRecursion IsOfLine (asked_in r.history)
+  pub moment : last_moment r.history ≡ moment_of (take n script)
+
+-- a play has gone through all lines, and behind them through what follows them up to the next fragment
+pub record HasFollowed (script : List Line) (media : Media) (next : ℕ) (r : Run) : Type 0 where
+  pub fed : HasFed media next r
+  pub lines : lines_in r.history ≡ script
+  pub before : List Entry
+  pub above : AllByRecursion IsOfLine before
+  pub follows : asked_in r.history ++ feed_rest (drop next media.fragments) ≡ before ++ implied (drop (length (feeds_in before)) media.fragments)
+  pub rest : AtRest (world r.tracks r.history)
