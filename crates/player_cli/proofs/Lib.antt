@@ -1,0 +1,9 @@
+pub mod Writes
+pub mod Fronts
+pub mod FileLemmas
+pub mod NameLemmas
+pub mod PlayLemmas
+pub mod MediaLemmas
+pub mod Complete
+pub mod HexLemmas
+pub mod AnswerLemmas

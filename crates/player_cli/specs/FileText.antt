@@ -1,0 +1,6 @@
+-- A file by its name, and its text.
+use Rattle.std.specs.Prelude.{ℕ, List}
+
+pub record FileText : Type 0 where
+  pub name : List ℕ
+  pub text : List ℕ

@@ -1,0 +1,9 @@
+pub mod MediaForm
+pub mod Command
+pub mod FileText
+pub mod Files
+pub mod ReadAll
+pub mod Written
+pub mod Answered
+pub mod Played
+pub mod Faults

@@ -1,0 +1,84 @@
+// The words of the command line.
+ghost use Rattle.std.specs.Prelude.{◌≡◌, [], ◌∷◌, map, string_bytes, MatchOption, MatchResult, IfOk, Ok, Err};
+ghost use Rattle.player_cli.specs.Command.{command, quiet_command, play_words, play_end, IsAsked, names_of};
+
+use crate::outcome::{UsageFault, UsageKind};
+
+/// What the words of a play ask for.
+#[derive(Clone, Copy)]
+pub struct PlayWords<'a> {
+    pub script: &'a str,
+    pub media: &'a str,
+    pub prefix: &'a str,
+    pub workers: u8,
+}
+
+pub fn bad_word(place: u32, kind: UsageKind) -> UsageFault
+    ensures { result ≡ record { place = place; kind = kind } }
+{
+    UsageFault { place, kind }
+}
+
+pub fn next_word(words: &[String]) -> Option<(&str, &[String])>
+    ensures { MatchOption result (map string_bytes words.now ≡ []) (λ p. map string_bytes words.now ≡ p.0.now ∷ map string_bytes p.1.now) }
+{
+    let (word, rest) = words.split_first()?;
+    Some((word.as_str(), rest))
+}
+
+/// The words behind the command `play`, if that is the command.
+#[tactic(auto, unfolding(crate::specs::Command::command, crate::specs::Command::quiet_command))]
+pub fn play_command(words: &[String]) -> Option<&[String]>
+    ensures { MatchOption result (command (map string_bytes words.now) ≡ quiet_command (map string_bytes words.now)) (λ rest. command (map string_bytes words.now) ≡ play_words (map string_bytes rest.now)) }
+{
+    let (command, rest) = next_word(words)?;
+    if command != "play" {
+        return None;
+    }
+    Some(rest)
+}
+
+/// Reads the words behind `play` from left to right.
+pub fn read_play(words: &[String]) -> Result<PlayWords<'_>, UsageFault>
+    ensures asked { MatchResult result (IsAsked (play_words (map string_bytes words.now))) (λ e. play_words (map string_bytes words.now) ≡ Err e) }
+    ensures alone { IfOk result (λ w. w.workers ≡ 0) }
+{
+    let Some((script, rest)) = next_word(words) else {
+        return Err(bad_word(2, UsageKind::MissingWord));
+    };
+    let Some((media, rest)) = next_word(rest) else {
+        return Err(bad_word(3, UsageKind::MissingWord));
+    };
+    let Some((prefix, rest)) = next_word(rest) else {
+        return Err(bad_word(4, UsageKind::MissingWord));
+    };
+    match end_fault(rest) {
+        Some(fault) => Err(fault),
+        None => Ok(PlayWords {
+            script,
+            media,
+            prefix,
+            workers: 0,
+        }),
+    }
+}
+
+/// What is wrong behind the prefix.
+fn end_fault(words: &[String]) -> Option<UsageFault>
+    ensures { result ≡ play_end (map string_bytes words.now) }
+{
+    let (option, rest) = next_word(words)?;
+    if option != "--workers" {
+        return Some(bad_word(5, UsageKind::ExtraWord));
+    }
+    let Some((number, rest)) = next_word(rest) else {
+        return Some(bad_word(6, UsageKind::MissingWord));
+    };
+    if number != "0" {
+        return Some(bad_word(6, UsageKind::BadNumber));
+    }
+    match next_word(rest) {
+        None => None,
+        Some(_) => Some(bad_word(7, UsageKind::ExtraWord)),
+    }
+}
