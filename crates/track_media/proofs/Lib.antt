@@ -1,0 +1,6 @@
+pub mod PieceLemmas
+pub mod NumberLemmas
+pub mod GatheringLemmas
+pub mod SectionLemmas
+pub mod Standing
+pub mod Sound

@@ -1,0 +1,72 @@
+-- Numbers and subsamples.
+use Rattle.std.proofs.Common.{◌≡◌, ◌<◌, ◌≤◌, ◌+◌, ◌-◌, ◌*◌, ℕ, List, [], ◌∷◌, ◌++◌, length, take, get_or, inl, inr, lit≤, Bool, true, false, Option, Some, None, refl, ap, ◌∙◌, append_assoc, arith}
+use Rattle.std.specs.Prelude.{nat_le, if◌then◌else◌}
+use Rattle.std.specs.List.{list_all}
+use Rattle.std.specs.Char.{is_ascii_digit, digit_value}
+use Rattle.std.specs.Str.Parse.{digits_value}
+use Rattle.std.proofs.lemmas.Bool.{cases_Bool, le-leb}
+use Rattle.std.proofs.lemmas.Bool.Decides.{nat_tests}
+use Rattle.std.proofs.lemmas.List.Folds.{list_all_at}
+use Rattle.std.proofs.lemmas.Int.Digits.{digits_value_more}
+use Rattle.std.proofs.lemmas.Str.Parse.{digits_value-take-le}
+use Rattle.std.proofs.lemmas.List.{append-nil, take_all}
+use Rattle.eme_types.specs.declared.sample.Sub.{Sub}
+use Rattle.track_media.specs.Text.{all_subs, with_sub, sub_in}
+
+abbrev pub joined_subs : List Sub → Option (List Sub) → Option (List Sub)
+joined_subs done None = None
+joined_subs done (Some more) = Some (done ++ more)
+
+joined_on : (done : List Sub) (s : Sub) (more : Option (List Sub)) → joined_subs done (with_sub s more) ≡ joined_subs (done ++ s ∷ []) more
+joined_on done s None = refl
+joined_on done s (Some more) = simp append_assoc
+
+-- nothing is done
+pub none_done : (more : Option (List Sub)) → joined_subs [] more ≡ more
+none_done None = refl
+none_done (Some more) = refl
+
+pub one_more : (done : List Sub) (text : List ℕ) (s : Sub) (more : List (List ℕ)) → sub_in text ≡ Some s → joined_subs done (all_subs (text ∷ more)) ≡ joined_subs (done ++ s ∷ []) (all_subs more)
+unfolding all_subs
+one_more done text s more e = rw e (joined_on done s (all_subs more))
+
+pub no_more : (done : List Sub) (text : List ℕ) (more : List (List ℕ)) → sub_in text ≡ None → joined_subs done (all_subs (text ∷ more)) ≡ None
+unfolding all_subs
+no_more done text more e = rw e refl
+
+pub all_done : (done : List Sub) → joined_subs done (all_subs []) ≡ Some done
+unfolding all_subs
+all_done done = simp append-nil
+
+-- ---- the value of digits
+
+passes : (p : ℕ → Bool) (ds : List ℕ) (i : ℕ) → list_all p ds ≡ true → i < length ds → p (get_or ds i 0) ≡ true
+passes p ds i all lt = elim (cases_Bool (p (get_or ds i 0))) [
+  | inl yes' ↦ yes'
+  | inr no' ↦ let none : list_all p ds ≡ false = list_all_at p ds i 0 lt no' in absurd cc
+]
+
+digit_is : (c : ℕ) → is_ascii_digit c ≡ true → digit_value c ≡ c - 48
+digit_is c e = grind (arith, nat_tests)
+
+pub value_more : (ds : List ℕ) (i : ℕ) → list_all is_ascii_digit ds ≡ true → i < length ds → digits_value 10 (take (i + 1) ds) ≡ digits_value 10 (take i ds) * 10 + (get_or ds i 0 - 48)
+value_more ds i all lt =
+    digits_value_more 10 ds i lt ∙ ap (λ n. digits_value 10 (take i ds) * 10 + n) (digit_is (get_or ds i 0) (passes is_ascii_digit ds i all lt))
+
+chosen_none : (v most : ℕ) → most < v → None ≡ (if nat_le v most then Some v else None)
+chosen_none v most lt = grind (arith, nat_tests)
+
+chosen_some : (v most : ℕ) → v ≤ most → Some v ≡ (if nat_le v most then Some v else None)
+chosen_some v most le = rw (le-leb v most le) refl
+
+-- a value above the limit stays above it
+pub too_large : (ds : List ℕ) (i most next : ℕ) → list_all is_ascii_digit ds ≡ true → i < length ds → next ≡ digits_value 10 (take i ds) * 10 + (get_or ds i 0 - 48) → most < next → None ≡ (if nat_le (digits_value 10 ds) most then Some (digits_value 10 ds) else None)
+too_large ds i most next all lt is above =
+    let more = value_more ds i all lt in
+    let within : digits_value 10 (take (i + 1) ds) ≤ digits_value 10 ds = digits_value-take-le 10 ds (i + 1) (lit≤ tt) in
+    chosen_none (digits_value 10 ds) most (omega (arith, more, within, is, above))
+
+pub whole_value : (ds : List ℕ) (v most : ℕ) → v ≡ digits_value 10 (take (length ds) ds) → v ≤ most → Some v ≡ (if nat_le (digits_value 10 ds) most then Some (digits_value 10 ds) else None)
+whole_value ds v most is le =
+    let all : v ≡ digits_value 10 ds = is ∙ ap (digits_value 10) (take_all (length ds) ds (omega arith)) in
+    ap (λ n. Some n) all ∙ chosen_some (digits_value 10 ds) most (omega (arith, all, le))

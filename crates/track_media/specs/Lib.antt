@@ -1,0 +1,7 @@
+pub mod Text
+pub mod ListLine
+pub mod SampleList
+pub mod File
+pub mod Pieces
+pub mod Views
+pub mod Gathering
