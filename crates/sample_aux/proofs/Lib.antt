@@ -1,0 +1,10 @@
+pub mod InOrder
+pub mod Passes
+pub mod Runs
+pub mod Indices
+pub mod Given
+pub mod Following
+pub mod Parts
+pub mod Both
+pub mod Joining
+pub mod Within

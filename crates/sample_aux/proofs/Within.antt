@@ -1,0 +1,374 @@
+-- A resolved movie fragment may be fed, and is within the room that was left.
+use Rattle.std.proofs.Common.{◌≡◌, ◌⊎◌, inl, inr, ℕ, zero, suc, ◌+◌, ◌-◌, ◌≤◌, Bool, true, false, List, [], ◌∷◌, ◌++◌, length, map, take, drop, Option, Some, None, Result, Ok, Err, refl, sym, ap, subst, ◌∙◌, arith, length-append}
+use Rattle.std.specs.Prelude.{IfOk, IsTrue, ℤ, pos, nat_lt, ◌==◌, not, ◌&&◌, ◌||◌, if◌then◌else◌, filter, unwrap_or, slice_get}
+use Rattle.std.specs.List.{list_all, list_any, sum_by}
+use Rattle.std.specs.Option.{option_map}
+use Rattle.std.proofs.lemmas.Bool.Decides.{eqb_tells, leb_tells}
+use Rattle.std.proofs.lemmas.List.{length-take}
+use Rattle.std.proofs.lemmas.List.Sums.{sum_by-append, sum_by-cons}
+use Rattle.iso_boxes.specs.Children.{◌>>=◌, required}
+use Rattle.eme_types.specs.WellFormed.{is_covered, iv_fits, pattern_fits, is_well_protected, is_well_formed}
+use Rattle.eme_types.specs.declared.sample.EncSample.{EncSample}
+use Rattle.eme_types.specs.declared.sample.Protect.{Protect}
+use Rattle.eme_types.specs.declared.media.TrackPart.{TrackPart}
+use Rattle.eme_types.specs.declared.media.Fragment.{Fragment}
+use Rattle.eme_types.specs.Fed.{is_among, are_distinct, part_track, part_samples, part_bytes, sample_bytes, has_samples, fragment_samples, fragment_bytes, are_well_formed, are_known, is_joined}
+use Rattle.prot_boxes.specs.declared.senc.SencItem.{SencItem}
+use Rattle.frag_boxes.specs.declared.records.Trun.{Trun}
+use Rattle.frag_boxes.specs.declared.records.Traf.{Traf}
+use Rattle.frag_boxes.specs.declared.records.MovieTrack.{MovieTrack}
+use Rattle.frag_boxes.specs.declared.records.Movie.{Movie}
+use Rattle.frag_boxes.specs.declared.records.Moof.{Moof}
+use Rattle.pattern_map.specs.SampleFaults.{first_fault_of, first_fault}
+use Rattle.pattern_map.specs.declared.check.SampleFault.{SampleFault}
+use Rattle.pattern_map.specs.declared.check.SampleFault.TheVariants.{Sum, IvSize, Pattern}
+use Rattle.sample_aux.specs.declared.fault.AuxFault.{AuxFault}
+use Rattle.sample_aux.specs.declared.fault.AuxKind.TheVariants.{UnknownTrack, NoTrex, Description}
+use Rattle.sample_aux.specs.declared.groups.Protection.{Protection}
+use Rattle.sample_aux.specs.declared.auxiliary.Auxiliary.{Auxiliary}
+use Rattle.sample_aux.specs.declared.fragment.Room.{Room}
+use Rattle.sample_aux.specs.Faults.{fault_at, Gives}
+use Rattle.sample_aux.specs.Groups.{protection_of}
+use Rattle.sample_aux.specs.declared.groups.Rule.{Rule}
+use Rattle.sample_aux.specs.declared.laying.Laying.{Laying}
+use Rattle.sample_aux.specs.declared.laying.Spot.{Spot}
+use Rattle.sample_aux.specs.Spans.{part_of}
+use Rattle.sample_aux.specs.InOrder.{in_order, learnt, each_passes}
+use Rattle.sample_aux.specs.Laying.{base_of, is_outside, size_of, spot_at, after, counted, run_at, run_laid, begun, runs_laid}
+use Rattle.sample_aux.specs.Auxiliary.{rule_of, auxiliary_of}
+use Rattle.sample_aux.specs.Resolve.{track_id, track_ids, entry_with, samples_of, traf_resolved, trafs_resolved, joined, all_joined, begin, fragment_of, resolved, track_with, place_of, item_of, protect_of, sample_at, samples_at, check_place, as_fault, sample_passes}
+use Rattle.sample_aux.proofs.Joining.{and_both, both_true, or_right, is_formed, of_track, distinct_joined, joined_of, joined_formed, joined_samples, joined_bytes, distinct_filter, filter_keeps, filter_has, sum_filter}
+
+-- what >>= gave was given by both
+pub bound : {E A B : Type 0} (x : Result A E) (f : A → Result B E) (y : B) → (x >>= f) ≡ Ok y → (a : A) × ((x ≡ Ok a) × (f a ≡ Ok y))
+bound (Ok a) f y e = (a, (refl, e))
+bound (Err g) f y e = absurd cc
+
+abbrev sure : {A : Type 0} → A → Result A AuxFault
+sure x = Ok x
+
+pub same_ok : {A : Type 0} (x y : A) → sure x ≡ sure y → x ≡ y
+same_ok x y e = cc
+
+-- ---- the samples of a run
+
+abbrev pub spot_size : Spot → ℕ
+spot_size s = s.size
+
+spot_if : (many outside : Bool) (e f : AuxFault) (s t : Spot) → (if many then Err e else if outside then Err f else Ok s) ≡ Ok t → (many ≡ false) × (s ≡ t)
+spot_if true outside e f s t h = absurd cc
+spot_if false true e f s t h = absurd cc
+spot_if false false e f s t h = (refl, cc)
+
+not_below : (a b : ℕ) → nat_lt a b ≡ false → b ≤ a
+not_below a b e = elim (leb_tells (suc a) b) [ inl h ↦ absurd (let g = h.0 in cc) | inr h ↦ (let g = h.1 in omega (arith, g)) ]
+
+pub spot_fits : (end place : ℕ) (l : Laying) (size : ℕ) (s : Spot) → spot_at end place l size ≡ Ok s → s.size ≤ l.bytes
+unfolding spot_at
+spot_fits end place l size s e =
+    let h = spot_if (nat_lt l.bytes size) (is_outside end l.at size) _ _ _ s e in
+    let n : size ≡ s.size = ap (λ (t : Spot). t.size) h.1 in
+    let m = not_below l.bytes size h.0 in
+    omega (arith, n, m)
+
+-- what is left behind the samples of a run
+pub record Left (l : Laying) (n : ℕ) (spots : List Spot) (next : Laying) : Type 0 where
+  pub many : length spots ≡ n
+  pub samples : next.samples ≡ l.samples
+  pub bytes : sum_by spot_size spots + next.bytes ≤ l.bytes
+
+left_more : (l : Laying) (s : Spot) (n : ℕ) (spots : List Spot) (next : Laying) → s.size ≤ l.bytes → Left (after l s) n spots next → Left l (suc n) (s ∷ spots) next
+left_more l s n spots next fits h =
+    let b = h.bytes in
+    let c = sum_by-cons spot_size s spots in
+    record { many = ap suc h.many; samples = h.samples; bytes = omega (arith, fits, b, c) }
+
+pub laid_left : (end place : ℕ) (sizes : ℕ → ℕ) (n k : ℕ) (l : Laying) (spots : List Spot) → in_order (λ known j. spot_at end place known (sizes j)) after l k n ≡ Ok spots → Left l n spots (learnt after l spots)
+unfolding in_order
+laid_left end place sizes zero k l spots e =
+    let same : [] ≡ spots = same_ok [] spots e in
+    subst (λ (xs : List Spot). Left l 0 xs (learnt after l xs)) same (let b : 0 + l.bytes ≤ l.bytes = omega arith in record { many = refl; samples = refl; bytes = b })
+laid_left end place sizes (suc n) k l spots e =
+    let read = λ (known : Laying) (j : ℕ). spot_at end place known (sizes j) in
+    let a = bound (read l k) (λ (x : Spot). in_order read after (after l x) (k + 1) n >>= λ xs. Ok (x ∷ xs)) spots e in
+    let b = bound (in_order read after (after l a.0) (k + 1) n) (λ (xs : List Spot). Ok (a.0 ∷ xs)) spots a.1.1 in
+    let same : a.0 ∷ b.0 ≡ spots = same_ok (a.0 ∷ b.0) spots b.1.1 in
+    let fits = spot_fits end place l (sizes k) a.0 a.1.0 in
+    subst (λ (xs : List Spot). Left l (suc n) xs (learnt after l xs)) same (left_more l a.0 n b.0 _ fits (laid_left end place sizes n (k + 1) (after l a.0) b.0 b.1.0))
+
+-- ---- runs
+
+pub record RunsLeft (l : Laying) (spots : List Spot) (next : Laying) : Type 0 where
+  pub samples : length spots + next.samples ≤ l.samples
+  pub bytes : sum_by spot_size spots + next.bytes ≤ l.bytes
+
+run_if : (many : Bool) (f : AuxFault) (rest : Result (List Spot) AuxFault) (spots : List Spot) → (if many then Err f else rest) ≡ Ok spots → (many ≡ false) × (rest ≡ Ok spots)
+run_if true f rest spots e = absurd cc
+run_if false f rest spots e = (refl, e)
+
+run_left : (end default : ℕ) (l : Laying) (run : Trun) (spots : List Spot) → run_at end default l run ≡ Ok spots → RunsLeft l spots (learnt after (counted run l) spots)
+unfolding run_at
+run_left end default l run spots e =
+    let h = run_if (nat_lt l.samples run.count) _ _ spots e in
+    let m = not_below l.samples run.count h.0 in
+    let g = laid_left end run.place (size_of run default) run.count 0 (counted run l) spots h.1 in
+    let a = g.many in
+    let b : (learnt after (counted run l) spots).samples ≡ l.samples - run.count = g.samples in
+    record { samples = omega (arith, m, a, b); bytes = g.bytes }
+
+pub one_run_left : (end default : ℕ) (l : Laying) (run : Trun) (x : List Spot × Laying) → run_laid end default l run ≡ Ok x → RunsLeft l x.0 x.1
+unfolding run_laid
+one_run_left end default l run x e =
+    let a = bound (run_at end default l run) (λ (spots : List Spot). Ok (spots, learnt after (counted run l) spots)) x e in
+    let same : (a.0, learnt after (counted run l) a.0) ≡ x = same_ok (a.0, learnt after (counted run l) a.0) x a.1.1 in
+    subst (λ (y : List Spot × Laying). RunsLeft l y.0 y.1) same (run_left end default l run a.0 a.1.0)
+
+both_left : (l m : Laying) (xs ys : List Spot) (next : Laying) → RunsLeft l xs m → RunsLeft m ys next → RunsLeft l (xs ++ ys) next
+both_left l m xs ys next a b =
+    let p = a.samples in let q = b.samples in let r = a.bytes in let s = b.bytes in
+    record { samples = omega (arith, p, q, length-append xs ys); bytes = omega (arith, r, s, sum_by-append spot_size xs ys) }
+
+pub runs_left : (end default : ℕ) (base : ℤ) (l : Laying) (runs : List Trun) (x : List Spot × Laying) → runs_laid end default base l runs ≡ Ok x → RunsLeft l x.0 x.1
+unfolding runs_laid
+runs_left end default base l [] x e =
+    let same : ([], l) ≡ x = same_ok ([], l) x e in
+    subst (λ (y : List Spot × Laying). RunsLeft l y.0 y.1) same (let a : 0 + l.samples ≤ l.samples = omega arith in let b : 0 + l.bytes ≤ l.bytes = omega arith in record { samples = a; bytes = b })
+runs_left end default base l (run ∷ runs) x e =
+    let a = bound (run_laid end default (begun base run l) run) (λ (one : List Spot × Laying). runs_laid end default base one.1 runs >>= λ others. Ok (one.0 ++ others.0, others.1)) x e in
+    let b = bound (runs_laid end default base a.0.1 runs) (λ (others : List Spot × Laying). Ok (a.0.0 ++ others.0, others.1)) x a.1.1 in
+    let same : (a.0.0 ++ b.0.0, b.0.1) ≡ x = same_ok (a.0.0 ++ b.0.0, b.0.1) x b.1.1 in
+    let first : RunsLeft l a.0.0 a.0.1 = let g = one_run_left end default (begun base run l) run a.0 a.1.0 in record { samples = g.samples; bytes = g.bytes } in
+    subst (λ (y : List Spot × Laying). RunsLeft l y.0 y.1) same (both_left l a.0.1 a.0.0 b.0.0 b.0.1 first (runs_left end default base a.0.1 runs b.0 b.1.0))
+
+-- ---- the samples of a track fragment
+
+short_take : (n : ℕ) (xs : List ℕ) → length (take n xs) ≤ n
+short_take n xs = omega (arith, length-take n xs)
+
+part_short : (file : List ℕ) (place len : ℕ) → length (part_of file place len) ≤ len
+part_short file place len = short_take len (drop place file)
+
+sample_short : (file : List ℕ) (place : ℕ) (spot : Spot) (rule : Option Rule) (item : SencItem) (x : EncSample) → sample_at file place spot rule item ≡ Ok x → length x.bytes ≤ spot.size
+unfolding sample_at
+sample_short file place spot rule item x e =
+    let a = bound (protect_of place rule item) (λ (protect : Option Protect). Ok (record { protect = protect; bytes = part_of file spot.place spot.size })) x e in
+    let same : part_of file spot.place spot.size ≡ x.bytes = ap (λ (s : EncSample). s.bytes) (same_ok (record { protect = a.0; bytes = part_of file spot.place spot.size }) x a.1.1) in
+    subst (λ (b : List ℕ). length b ≤ spot.size) same (part_short file spot.place spot.size)
+
+pub record Fits (spots : List Spot) (samples : List EncSample) : Type 0 where
+  pub many : length samples ≡ length spots
+  pub bytes : sum_by sample_bytes samples ≤ sum_by spot_size spots
+
+abbrev ItemsFit : (ℕ → Result EncSample AuxFault) → ℕ → List Spot → Type 0
+ItemsFit read k rest = (j : ℕ) (x : EncSample) → read (k + j) ≡ Ok x → length x.bytes ≤ (place_of rest j).size
+
+fits_more : (s : Spot) (rest : List Spot) (x : EncSample) (xs : List EncSample) → length x.bytes ≤ s.size → Fits rest xs → Fits (s ∷ rest) (x ∷ xs)
+fits_more s rest x xs le h =
+    let b = h.bytes in
+    record { many = ap suc h.many; bytes = omega (arith, le, b, sum_by-cons sample_bytes x xs, sum_by-cons spot_size s rest) }
+
+fit_rest : (read : ℕ → Result EncSample AuxFault) (k : ℕ) (s : Spot) (rest : List Spot) → ItemsFit read k (s ∷ rest) → ItemsFit read (k + 1) rest
+fit_rest read k s rest h j x e =
+    let n : (k + 1) + j ≡ k + suc j = omega arith in
+    h (suc j) x (rw n at e)
+
+fit_first : (read : ℕ → Result EncSample AuxFault) (k : ℕ) (s : Spot) (rest : List Spot) (x : EncSample) → ItemsFit read k (s ∷ rest) → read k ≡ Ok x → length x.bytes ≤ s.size
+fit_first read k s rest x h e =
+    let n : k ≡ k + 0 = omega arith in
+    h 0 x (subst (λ (i : ℕ). read i ≡ Ok x) n e)
+
+all_fit : (read : ℕ → Result EncSample AuxFault) (k : ℕ) (rest : List Spot) (samples : List EncSample) → ItemsFit read k rest → in_order (λ (none : Unit {0}) j. read j) (λ none x. tt) tt k (length rest) ≡ Ok samples → Fits rest samples
+unfolding in_order
+all_fit read k [] samples h e =
+    let same : [] ≡ samples = same_ok [] samples e in
+    subst (λ (xs : List EncSample). Fits [] xs) same (let b : 0 ≤ 0 = omega arith in record { many = refl; bytes = b })
+all_fit read k (s ∷ rest) samples h e =
+    let go = in_order (λ (none : Unit {0}) j. read j) (λ none x. tt) tt (k + 1) (length rest) in
+    let a = bound (read k) (λ (x : EncSample). go >>= λ xs. Ok (x ∷ xs)) samples e in
+    let b = bound go (λ (xs : List EncSample). Ok (a.0 ∷ xs)) samples a.1.1 in
+    let same : a.0 ∷ b.0 ≡ samples = same_ok (a.0 ∷ b.0) samples b.1.1 in
+    let le = fit_first read k s rest a.0 h a.1.0 in
+    subst (λ (xs : List EncSample). Fits (s ∷ rest) xs) same (fits_more s rest a.0 b.0 le (all_fit read (k + 1) rest b.0 (fit_rest read k s rest h) b.1.0))
+
+samples_fit : (file : List ℕ) (place : ℕ) (spots : List Spot) (rules : List (Option Rule)) (items : List SencItem) (samples : List EncSample) → samples_at file place spots rules items ≡ Ok samples → Fits spots samples
+unfolding samples_at
+samples_fit file place spots rules items samples e =
+    all_fit (λ k. sample_at file place (place_of spots k) (rule_of rules k) (item_of items k)) 0 spots samples
+    (λ j x h. let n : 0 + j ≡ j = omega arith in sample_short file place (place_of spots j) (rule_of rules j) (item_of items j) x (rw n at h)) e
+
+-- ---- well-formed samples
+
+formed_if : (a b c : Bool) (place : ℕ) → as_fault place (if not a then Err Sum else if not b then Err IvSize else if not c then Err Pattern else Ok tt) ≡ Ok tt → (a && b && c) ≡ true
+formed_if true true true place e = refl
+formed_if true true false place e = absurd cc
+formed_if true false c place e = absurd cc
+formed_if false b c place e = absurd cc
+
+formed_of : (o : Option Protect) (size place : ℕ) → as_fault place (first_fault_of o size) ≡ Ok tt → is_well_protected o size ≡ true
+formed_of None size place e = refl
+formed_of (Some p) size place e = formed_if (is_covered p.subs size) (iv_fits p.scheme p.iv) (pattern_fits p.scheme p.crypt p.skip) place e
+
+all_formed : (senc : Option ℕ) (traf : ℕ) (samples : List EncSample) (u : Unit {0}) → each_passes (λ s. sample_passes senc traf s) samples ≡ Ok u → list_all is_well_formed samples ≡ true
+unfolding each_passes
+all_formed senc traf [] u e = refl
+all_formed senc traf (s ∷ ss) u e =
+    let a = bound (sample_passes senc traf s) (λ (passed : Unit {0}). each_passes (λ x. sample_passes senc traf x) ss) u e in
+    both_true (is_well_formed s) (list_all is_well_formed ss) (formed_of s.protect (length s.bytes) (check_place senc traf s) a.1.0) (all_formed senc traf ss u a.1.1)
+
+-- ---- the track
+
+same_number : (n : ℕ) → (n == n) ≡ true
+same_number n = elim (eqb_tells n n) [ inl h ↦ h.0 | inr h ↦ absurd (h.1 refl) ]
+
+known_if : (b : Bool) (t x : MovieTrack) (ts : List MovieTrack) (rest : Option MovieTrack) → (rest ≡ Some x → is_among (map track_id ts) x.id ≡ true) → (if b then Some t else rest) ≡ Some x → is_among (map track_id (t ∷ ts)) x.id ≡ true
+known_if true t x ts rest h e =
+    let same : t.id ≡ x.id = ap (λ (o : Option MovieTrack). unwrap_or (option_map track_id o) 0) e in
+    rw (same, same_number x.id) refl
+known_if false t x ts rest h e = rw (h e) (or_right (t.id == x.id))
+
+known : (id : ℕ) (ts : List MovieTrack) (x : MovieTrack) → track_with id ts ≡ Some x → is_among (map track_id ts) x.id ≡ true
+known id [] x e = absurd cc
+known id (t ∷ ts) x e = known_if (t.id == id) t x ts (track_with id ts) (known id ts x) e
+
+there : {A : Type 0} (f : AuxFault) (o : Option A) (x : A) → required f o ≡ Ok x → o ≡ Some x
+there f None x e = absurd cc
+there {A = A} f (Some y) x e = let some : A → Option A = λ z. Some z in ap some (same_ok y x e)
+
+-- ---- a track fragment
+
+pub record PartWithin (movie : Movie) (l : Laying) (x : TrackPart × Laying) : Type 0 where
+  pub known : is_among (track_ids movie) x.0.track ≡ true
+  pub formed : is_formed x.0 ≡ true
+  pub samples : part_samples x.0 + x.1.samples ≤ l.samples
+  pub bytes : part_bytes x.0 + x.1.bytes ≤ l.bytes
+
+record Sampled (spots : List Spot) (samples : List EncSample) : Type 0 where
+  fits : Fits spots samples
+  formed : list_all is_well_formed samples ≡ true
+
+sampled : (file : List ℕ) (traf : Traf) (base : ℤ) (spots : List Spot) (protection : Protection) (x : List EncSample) → samples_of file traf base spots protection ≡ Ok x → Sampled spots x
+unfolding samples_of
+sampled file traf base spots protection x e =
+    let a = bound (auxiliary_of file protection.entry traf base protection.rules)
+    (λ (auxiliary : Auxiliary). samples_at file traf.place spots protection.rules auxiliary.items >>= λ samples. each_passes (λ s. sample_passes auxiliary.senc traf.place s) samples >>= λ passed. Ok samples) x e in
+    let b = bound (samples_at file traf.place spots protection.rules a.0.items) (λ (samples : List EncSample). each_passes (λ s. sample_passes a.0.senc traf.place s) samples >>= λ passed. Ok samples) x a.1.1 in
+    let c = bound (each_passes (λ s. sample_passes a.0.senc traf.place s) b.0) (λ (passed : Unit {0}). Ok b.0) x b.1.1 in
+    let same : b.0 ≡ x = same_ok b.0 x c.1.1 in
+    subst (λ (xs : List EncSample). Sampled spots xs) same (record { fits = samples_fit file traf.place spots protection.rules a.0.items b.0 b.1.0; formed = all_formed a.0.senc traf.place b.0 c.0 c.1.0 })
+
+within : (movie : Movie) (l : Laying) (at : ℤ) (track : MovieTrack) (spots : List Spot) (next : Laying) (samples : List EncSample) → is_among (track_ids movie) track.id ≡ true → RunsLeft (record l { at = at }) spots next → Sampled spots samples
+    → PartWithin movie l (record { track = track.id; samples = samples }, next)
+within movie l at track spots next samples k r s =
+    let a : length spots + next.samples ≤ l.samples = r.samples in
+    let b : sum_by spot_size spots + next.bytes ≤ l.bytes = r.bytes in
+    let c = s.fits.many in
+    let d = s.fits.bytes in
+    let e : length samples + next.samples ≤ l.samples = omega (arith, a, c) in
+    let f : sum_by sample_bytes samples + next.bytes ≤ l.bytes = omega (arith, b, d) in
+    record { known = k; formed = s.formed; samples = e; bytes = f }
+
+pub part_within : (file : List ℕ) (movie : Movie) (start : ℕ) (l : Laying) (traf : Traf) (x : TrackPart × Laying) → traf_resolved file movie start l traf ≡ Ok x → PartWithin movie l x
+unfolding traf_resolved
+part_within file movie start l traf x e =
+    let at = base_of start traf.tfhd l.at in
+    let a = bound (required (fault_at traf.tfhd.place UnknownTrack) (track_with traf.tfhd.track movie.tracks)) _ x e in
+    let b = bound (required (fault_at traf.tfhd.place NoTrex) a.0.trex) _ x a.1.1 in
+    let c = bound (required (fault_at traf.tfhd.place Description) (entry_with (unwrap_or traf.tfhd.description b.0.description) a.0.entries)) _ x b.1.1 in
+    let d = bound (runs_laid (length file) (unwrap_or traf.tfhd.size b.0.size) at (record l { at = at }) traf.runs) _ x c.1.1 in
+    let p = bound (protection_of file a.0 c.0 traf (length d.0.0)) _ x d.1.1 in
+    let s = bound (samples_of file traf at d.0.0 p.0) _ x p.1.1 in
+    let same : (record { track = a.0.id; samples = s.0 }, d.0.1) ≡ x = same_ok (record { track = a.0.id; samples = s.0 }, d.0.1) x s.1.1 in
+    let k = known traf.tfhd.track movie.tracks a.0 (there _ _ a.0 a.1.0) in
+    let r = runs_left (length file) (unwrap_or traf.tfhd.size b.0.size) at (record l { at = at }) traf.runs d.0 d.1.0 in
+    subst (λ (y : TrackPart × Laying). PartWithin movie l y) same (within movie l at a.0 d.0.0 d.0.1 s.0 k r (sampled file traf at d.0.0 p.0 s.0 s.1.0))
+
+-- ---- all track fragments
+
+pub record PartsWithin (movie : Movie) (l : Laying) (ps : List TrackPart) : Type 0 where
+  pub known : of_track (λ id. is_among (track_ids movie) id) ps ≡ true
+  pub formed : list_all is_formed ps ≡ true
+  pub samples : sum_by part_samples ps ≤ l.samples
+  pub bytes : sum_by part_bytes ps ≤ l.bytes
+
+parts_more : (movie : Movie) (l : Laying) (x : TrackPart × Laying) (ps : List TrackPart) → PartWithin movie l x → PartsWithin movie x.1 ps → PartsWithin movie l (x.0 ∷ ps)
+parts_more movie l x ps a b =
+    let p = a.samples in let q = b.samples in let r = a.bytes in let s = b.bytes in
+    record {
+      known = both_true _ _ a.known b.known;
+      formed = both_true _ _ a.formed b.formed;
+      samples = omega (arith, p, q, sum_by-cons part_samples x.0 ps);
+      bytes = omega (arith, r, s, sum_by-cons part_bytes x.0 ps);
+    }
+
+pub parts_within : (file : List ℕ) (movie : Movie) (start : ℕ) (l : Laying) (trafs : List Traf) (ps : List TrackPart) → trafs_resolved file movie start l trafs ≡ Ok ps → PartsWithin movie l ps
+unfolding trafs_resolved
+parts_within file movie start l [] ps e =
+    let same : [] ≡ ps = same_ok [] ps e in
+    subst (λ (xs : List TrackPart). PartsWithin movie l xs) same (let a : 0 ≤ l.samples = omega arith in let b : 0 ≤ l.bytes = omega arith in record { known = refl; formed = refl; samples = a; bytes = b })
+parts_within file movie start l (traf ∷ trafs) ps e =
+    let a = bound (traf_resolved file movie start l traf) (λ (one : TrackPart × Laying). trafs_resolved file movie start one.1 trafs >>= λ others. Ok (one.0 ∷ others)) ps e in
+    let b = bound (trafs_resolved file movie start a.0.1 trafs) (λ (others : List TrackPart). Ok (a.0.0 ∷ others)) ps a.1.1 in
+    let same : a.0.0 ∷ b.0 ≡ ps = same_ok (a.0.0 ∷ b.0) ps b.1.1 in
+    subst (λ (xs : List TrackPart). PartsWithin movie l xs) same (parts_more movie l a.0 b.0 (part_within file movie start l traf a.0 a.1.0) (parts_within file movie start a.0.1 trafs b.0 b.1.0))
+
+-- ---- the movie fragment
+
+pub record FragmentWithin (movie : Movie) (room : Room) (f : Fragment) : Type 0 where
+  pub known : are_known (track_ids movie) f ≡ true
+  pub joined : is_joined f ≡ true
+  pub formed : are_well_formed f ≡ true
+  pub samples : fragment_samples f ≤ room.samples
+  pub bytes : fragment_bytes f ≤ room.bytes
+
+kept_within : (file : List ℕ) (movie : Movie) (moof : Moof) (room : Room) (ps : List TrackPart) → PartsWithin movie (begin moof room) ps → FragmentWithin movie room (fragment_of file moof (joined [] ps))
+kept_within file movie moof room ps h =
+    let parts = joined [] ps in
+    let a : sum_by part_samples ps ≤ room.samples = h.samples in
+    let b : sum_by part_bytes ps ≤ room.bytes = h.bytes in
+    let none : sum_by part_samples [] ≡ 0 = refl in
+    let empty : sum_by part_bytes [] ≡ 0 = refl in
+    let samples : sum_by part_samples (filter has_samples parts) ≤ room.samples = omega (arith, a, none, sum_filter part_samples parts, joined_samples [] ps) in
+    let bytes : sum_by part_bytes (filter has_samples parts) ≤ room.bytes = omega (arith, b, empty, sum_filter part_bytes parts, joined_bytes [] ps) in
+    record {
+      known = filter_keeps (λ (p : TrackPart). is_among (track_ids movie) p.track) parts (joined_of (λ id. is_among (track_ids movie) id) [] ps refl h.known);
+      joined = both_true _ _ (distinct_filter parts (distinct_joined [] ps refl)) (filter_has parts);
+      formed = filter_keeps is_formed parts (joined_formed [] ps refl h.formed);
+      samples = samples;
+      bytes = bytes;
+    }
+
+all_joined_ok : (r : Result (List TrackPart) AuxFault) (parts : List TrackPart) → all_joined [] r ≡ Ok parts → (ps : List TrackPart) × ((r ≡ Ok ps) × (joined [] ps ≡ parts))
+all_joined_ok (Ok ps) parts e = (ps, (refl, same_ok (joined [] ps) parts e))
+all_joined_ok (Err f) parts e = absurd cc
+
+pub fragment_within : (file : List ℕ) (movie : Movie) (moof : Moof) (room : Room) (f : Fragment) → resolved file movie moof room ≡ Ok f → FragmentWithin movie room f
+unfolding resolved
+fragment_within file movie moof room f e =
+    let a = bound (all_joined [] (trafs_resolved file movie moof.place (begin moof room) moof.trafs)) (λ (parts : List TrackPart). Ok (fragment_of file moof parts)) f e in
+    let b = all_joined_ok (trafs_resolved file movie moof.place (begin moof room) moof.trafs) a.0 a.1.0 in
+    let h = kept_within file movie moof room b.0 (parts_within file movie moof.place (begin moof room) moof.trafs b.0 b.1.0) in
+    let g = subst (λ (parts : List TrackPart). FragmentWithin movie room (fragment_of file moof parts)) b.1.1 h in
+    let same : fragment_of file moof a.0 ≡ f = same_ok (fragment_of file moof a.0) f a.1.1 in
+    subst (λ (y : Fragment). FragmentWithin movie room y) same g
+
+-- ---- the answer of resolve
+
+pub known_ok : (r : Result Fragment AuxFault) (file : List ℕ) (movie : Movie) (moof : Moof) (room : Room) → Gives (λ (f : Fragment). f) r (resolved file movie moof room) → IfOk r (λ f. IsTrue (are_known (track_ids movie) f))
+known_ok (Ok f) file movie moof room h = let g = fragment_within file movie moof room f h in g.known
+known_ok (Err e) file movie moof room h = tt
+
+pub joined_ok : (r : Result Fragment AuxFault) (file : List ℕ) (movie : Movie) (moof : Moof) (room : Room) → Gives (λ (f : Fragment). f) r (resolved file movie moof room) → IfOk r (λ f. IsTrue (is_joined f))
+joined_ok (Ok f) file movie moof room h = let g = fragment_within file movie moof room f h in g.joined
+joined_ok (Err e) file movie moof room h = tt
+
+pub formed_ok : (r : Result Fragment AuxFault) (file : List ℕ) (movie : Movie) (moof : Moof) (room : Room) → Gives (λ (f : Fragment). f) r (resolved file movie moof room) → IfOk r (λ f. IsTrue (are_well_formed f))
+formed_ok (Ok f) file movie moof room h = let g = fragment_within file movie moof room f h in g.formed
+formed_ok (Err e) file movie moof room h = tt
+
+pub samples_ok : (r : Result Fragment AuxFault) (file : List ℕ) (movie : Movie) (moof : Moof) (room : Room) → Gives (λ (f : Fragment). f) r (resolved file movie moof room) → IfOk r (λ f. fragment_samples f ≤ room.samples)
+samples_ok (Ok f) file movie moof room h = let g = fragment_within file movie moof room f h in g.samples
+samples_ok (Err e) file movie moof room h = tt
+
+pub bytes_ok : (r : Result Fragment AuxFault) (file : List ℕ) (movie : Movie) (moof : Moof) (room : Room) → Gives (λ (f : Fragment). f) r (resolved file movie moof room) → IfOk r (λ f. fragment_bytes f ≤ room.bytes)
+bytes_ok (Ok f) file movie moof room h = let g = fragment_within file movie moof room f h in g.bytes
+bytes_ok (Err e) file movie moof room h = tt

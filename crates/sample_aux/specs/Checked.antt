@@ -1,0 +1,74 @@
+-- The protection of a movie's sample entries (ISO/IEC 14496-12 section 8.12) and its group descriptions (section 8.9.3).
+use Rattle.std.specs.Prelude.{◌≡◌, ℕ, List, [], slice_get, Option, Some, None, Result, Ok, Err}
+use Rattle.iso_boxes.specs.Walk.{Found}
+use Rattle.iso_boxes.specs.Children.{◌>>=◌}
+use Rattle.prot_boxes.specs.Sinf.{sinf_at}
+use Rattle.prot_boxes.specs.Sgpd.{sgpd_at}
+use Rattle.prot_boxes.specs.declared.fault.ProtFault.{ProtFault}
+use Rattle.prot_boxes.specs.declared.fault.ProtKind.{ProtKind}
+use Rattle.prot_boxes.specs.declared.fault.ProtKind.TheVariants as prot
+use Rattle.prot_boxes.specs.declared.seig.Seig.{Seig}
+use Rattle.prot_boxes.specs.declared.sgpd.Sgpd.{Sgpd}
+use Rattle.prot_boxes.specs.declared.sinf.Sinf.{Sinf}
+use Rattle.frag_boxes.specs.declared.records.Span.{Span}
+use Rattle.frag_boxes.specs.declared.records.SampleEntry.{SampleEntry}
+use Rattle.frag_boxes.specs.declared.records.MovieTrack.{MovieTrack}
+use Rattle.frag_boxes.specs.declared.records.Movie.{Movie}
+use Rattle.sample_aux.specs.declared.fault.AuxFault.{AuxFault}
+use Rattle.sample_aux.specs.declared.fault.AuxKind.TheVariants.{Scheme}
+use Rattle.sample_aux.specs.Faults.{fault_at, aux_fault, told}
+use Rattle.sample_aux.specs.Spans.{boxes_at, first_given}
+use Rattle.sample_aux.specs.InOrder.{each_passes}
+
+-- ---- sample entries
+
+-- a sinf whose first broken rule is the scheme is passed over
+abbrev pub passed_over : ProtFault → ProtKind → Result (Option Sinf) AuxFault
+passed_over f prot.Scheme = Ok None
+passed_over f _ = Err (aux_fault f)
+
+abbrev pub if_known : Result Sinf ProtFault → Result (Option Sinf) AuxFault
+if_known (Ok s) = Ok (Some s)
+if_known (Err f) = passed_over f f.kind
+
+unfoldable pub known_sinf : Found → Result (Option Sinf) AuxFault
+known_sinf b = if_known (sinf_at b)
+
+-- an entry without sinf is clear; of the sinf boxes of another one is used, or the first is refused
+abbrev pub used_of : Option Span → Option Sinf → Result (Option Sinf) AuxFault
+used_of None used = Ok None
+used_of (Some s) None = Err (fault_at s.place Scheme)
+used_of (Some s) (Some used) = Ok (Some used)
+
+-- what protects the samples of an entry; none where it is clear
+unfoldable pub entry_protection : List ℕ → SampleEntry → Result (Option Sinf) AuxFault
+entry_protection file entry = first_given known_sinf (boxes_at file entry.sinfs) >>= used_of (slice_get entry.sinfs 0)
+
+-- ---- group descriptions
+
+unfoldable pub told_groups : Found → Result (Option Sgpd) AuxFault
+told_groups b = told (sgpd_at b)
+
+abbrev pub entries_or_none : Option Sgpd → List Seig
+entries_or_none None = []
+entries_or_none (Some s) = s.entries
+
+-- the groups that the first of these boxes of type seig describes
+unfoldable pub groups_in : List ℕ → List Span → Result (List Seig) AuxFault
+groups_in file spans = first_given told_groups (boxes_at file spans) >>= λ used. Ok (entries_or_none used)
+
+-- ---- the movie
+
+abbrev pub entry_passes : List ℕ → SampleEntry → Result (Unit {0}) AuxFault
+entry_passes file entry = entry_protection file entry >>= λ used. Ok tt
+
+-- the sample entries in order, then the group descriptions
+unfoldable pub track_passes : List ℕ → MovieTrack → Result (Unit {0}) AuxFault
+track_passes file track = do
+  entries ← each_passes (λ entry. entry_passes file entry) track.entries
+  groups ← groups_in file track.groups
+  Ok tt
+
+-- each track in order
+unfoldable pub movie_passes : List ℕ → Movie → Result (Unit {0}) AuxFault
+movie_passes file movie = each_passes (λ track. track_passes file track) movie.tracks

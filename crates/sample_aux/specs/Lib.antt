@@ -1,0 +1,9 @@
+pub mod Faults
+pub mod Spans
+pub mod InOrder
+pub mod Checked
+pub mod Laying
+pub mod Groups
+pub mod Counting
+pub mod Auxiliary
+pub mod Resolve

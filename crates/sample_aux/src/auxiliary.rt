@@ -1,0 +1,306 @@
+// The IVs and subsamples of the samples of a track fragment.
+ghost use Rattle.std.specs.Prelude.{◌≡◌, ◌==◌, ◌||◌, map, length, IfOk};
+ghost use Rattle.std.specs.Option.{option_map};
+ghost use Rattle.iso_boxes.specs.Walk.{found};
+ghost use Rattle.prot_boxes.specs.Answers.{Reads as ReadsKind};
+ghost use Rattle.prot_boxes.specs.Sinf.{scheme_code};
+ghost use Rattle.sample_aux.specs.Faults.{Gives};
+ghost use Rattle.sample_aux.specs.Spans.{boxes_at, first_given};
+ghost use Rattle.sample_aux.specs.Counting.{count_fields};
+ghost use Rattle.sample_aux.specs.Auxiliary.{iv_size_of, unless_zero, counted_senc, by_senc, is_of, saiz_of, saio_of, few_sizes, suits_runs, used_saiz, used_saio, by_sizes, by_used, auxiliary_of};
+
+use crate::fault::{AuxFault, AuxKind};
+use crate::groups::Rule;
+use crate::laying::Laying;
+use crate::sample_data::{by_spots, data_spots};
+use crate::spans::box_at;
+use eme_types::{Items, IvSizes, Scheme};
+use frag_boxes::{Span, Traf};
+use iso_boxes::{BoxRef, fields, u8_at, u24_at, u32_at};
+use prot_boxes::{
+    ProtFault, ProtKind, Saio, Saiz, SencItems, Sinf, read_saio, read_saiz, read_senc,
+};
+use std::alloc::{AllocError, Global};
+
+/// What auxiliary data says of each sample, and the place of the used `senc`, where there is one.
+#[derive(Drop)]
+pub struct Auxiliary {
+    pub senc: Option<u64>,
+    pub items: SencItems,
+}
+
+/// A `saiz` and its place.
+#[derive(Drop)]
+pub struct UsedSaiz {
+    pub place: u64,
+    pub saiz: Saiz,
+}
+
+/// A `saio` and its place.
+#[derive(Drop)]
+pub struct UsedSaio {
+    pub place: u64,
+    pub saio: Saio,
+}
+
+// ---- senc
+
+fn iv_size_of(rule: Option<Rule>) -> u8
+    ensures { result ≡ iv_size_of rule }
+{
+    match rule {
+        None => 0,
+        Some(rule) => rule.group.iv_size,
+    }
+}
+
+fn iv_sizes(alloc: Global, rules: &[Option<Rule>]) -> Result<IvSizes, AllocError>
+    ensures { IfOk result (λ x. x ≡ map iv_size_of rules.now) }
+{
+    let mut sizes = Items::new(alloc);
+    for rule in rules {
+        sizes.push(iv_size_of(*rule))?;
+    }
+    Ok(sizes)
+}
+
+#[tactic(auto, unfolding(crate::specs::Counting::count_fields))]
+fn read_count(rest: &[u8]) -> Result<(u32, &[u8]), ProtKind>
+    ensures { ReadsKind (λ x. (x.0, x.1.now)) result (count_fields rest.now) }
+{
+    fields!(rest, ProtKind::Short; _version: u8_at, _flags: u24_at, count: u32_at);
+    Ok((count, rest))
+}
+
+#[tactic(auto, unfolding(crate::specs::Auxiliary::counted_senc))]
+fn counted_senc<'a>(at: &BoxRef<'a>) -> Result<Option<BoxRef<'a>>, AuxFault>
+    ensures { Gives (option_map found) result (counted_senc (found at.now)) }
+{
+    match read_count(at.body) {
+        Ok((0, _)) => Ok(None),
+        Ok(_) => Ok(Some(*at)),
+        Err(kind) => Err(AuxFault::from(ProtFault {
+            place: at.place,
+            kind,
+        })),
+    }
+}
+
+fn first_senc<'a>(file: &'a [u8], spans: &[Span]) -> Result<Option<BoxRef<'a>>, AuxFault>
+    ensures { Gives (option_map found) result (first_given counted_senc (boxes_at file.now spans.now)) }
+{
+    for span in spans {
+        let given = counted_senc(&box_at(file, span))?;
+        if given.is_some() {
+            return Ok(given);
+        }
+    }
+    Ok(None)
+}
+
+#[tactic(auto, unfolding(crate::specs::Auxiliary::by_senc))]
+fn by_senc(alloc: Global, rules: &[Option<Rule>], at: &BoxRef<'_>) -> Result<Auxiliary, AuxFault>
+    ensures { Gives (λ x. x) result (by_senc rules.now (found at.now)) }
+{
+    let sizes = iv_sizes(alloc, rules)?;
+    let senc = read_senc(alloc, at, &sizes)?;
+    Ok(Auxiliary {
+        senc: Some(at.place),
+        items: senc.items,
+    })
+}
+
+// ---- saiz and saio
+
+fn scheme_code(scheme: Scheme) -> [u8; 4]
+    ensures { result ≡ scheme_code scheme }
+{
+    match scheme {
+        Scheme::Cenc => *b"cenc",
+        Scheme::Cbcs => *b"cbcs",
+    }
+}
+
+fn is_of(scheme: Scheme, kind: Option<[u8; 4]>) -> bool
+    ensures { result ≡ is_of scheme kind }
+{
+    match kind {
+        None => true,
+        Some(kind) => kind == scheme_code(scheme),
+    }
+}
+
+#[tactic(auto, unfolding(crate::specs::Auxiliary::saiz_of))]
+fn saiz_of(alloc: Global, scheme: Scheme, at: &BoxRef<'_>) -> Result<Option<UsedSaiz>, AuxFault>
+    ensures { Gives (λ x. x) result (saiz_of scheme (found at.now)) }
+{
+    let saiz = read_saiz(alloc, at)?;
+    if is_of(scheme, saiz.kind) {
+        Ok(Some(UsedSaiz {
+            place: at.place,
+            saiz,
+        }))
+    } else {
+        Ok(None)
+    }
+}
+
+#[tactic(auto, unfolding(crate::specs::Auxiliary::saio_of))]
+fn saio_of(alloc: Global, scheme: Scheme, at: &BoxRef<'_>) -> Result<Option<UsedSaio>, AuxFault>
+    ensures { Gives (λ x. x) result (saio_of scheme (found at.now)) }
+{
+    let saio = read_saio(alloc, at)?;
+    if is_of(scheme, saio.kind) {
+        Ok(Some(UsedSaio {
+            place: at.place,
+            saio,
+        }))
+    } else {
+        Ok(None)
+    }
+}
+
+fn first_saiz(
+    alloc: Global,
+    file: &[u8],
+    scheme: Scheme,
+    spans: &[Span],
+) -> Result<Option<UsedSaiz>, AuxFault>
+    ensures { Gives (λ x. x) result (first_given (saiz_of scheme) (boxes_at file.now spans.now)) }
+{
+    for span in spans {
+        let given = saiz_of(alloc, scheme, &box_at(file, span))?;
+        if given.is_some() {
+            return Ok(given);
+        }
+    }
+    Ok(None)
+}
+
+fn first_saio(
+    alloc: Global,
+    file: &[u8],
+    scheme: Scheme,
+    spans: &[Span],
+) -> Result<Option<UsedSaio>, AuxFault>
+    ensures { Gives (λ x. x) result (first_given (saio_of scheme) (boxes_at file.now spans.now)) }
+{
+    for span in spans {
+        let given = saio_of(alloc, scheme, &box_at(file, span))?;
+        if given.is_some() {
+            return Ok(given);
+        }
+    }
+    Ok(None)
+}
+
+#[tactic(auto, unfolding(crate::specs::Auxiliary::used_saiz))]
+fn used_saiz(
+    alloc: Global,
+    file: &[u8],
+    scheme: Scheme,
+    traf: &Traf,
+    n: usize,
+) -> Result<UsedSaiz, AuxFault>
+    ensures { Gives (λ x. x) result (used_saiz file.now scheme traf.now n) }
+{
+    let Some(used) = first_saiz(alloc, file, scheme, traf.saiz.as_slice())? else {
+        return Err(AuxFault {
+            place: traf.place,
+            kind: AuxKind::NoAux,
+        });
+    };
+    if used.saiz.count as usize > n {
+        return Err(AuxFault {
+            place: used.place,
+            kind: AuxKind::CountDiffers,
+        });
+    }
+    Ok(used)
+}
+
+#[tactic(auto, unfolding(crate::specs::Auxiliary::used_saio))]
+fn used_saio(alloc: Global, file: &[u8], scheme: Scheme, traf: &Traf) -> Result<UsedSaio, AuxFault>
+    ensures { Gives (λ x. x) result (used_saio file.now scheme traf.now) }
+{
+    let Some(used) = first_saio(alloc, file, scheme, traf.saio.as_slice())? else {
+        return Err(AuxFault {
+            place: traf.place,
+            kind: AuxKind::NoAux,
+        });
+    };
+    let count = used.saio.offsets.len();
+    if count == 1 || count == traf.runs.len() {
+        Ok(used)
+    } else {
+        Err(AuxFault {
+            place: used.place,
+            kind: AuxKind::CountDiffers,
+        })
+    }
+}
+
+#[tactic(auto, unfolding(crate::specs::Auxiliary::by_sizes))]
+fn by_sizes(
+    alloc: Global,
+    file: &[u8],
+    scheme: Scheme,
+    traf: &Traf,
+    base: Laying,
+    rules: &[Option<Rule>],
+) -> Result<Auxiliary, AuxFault>
+    ensures { Gives (λ x. x) result (by_sizes file.now scheme traf.now base.at rules.now) }
+{
+    let sizes = used_saiz(alloc, file, scheme, traf, rules.len())?;
+    let offsets = used_saio(alloc, file, scheme, traf)?;
+    let spots = data_spots(
+        alloc,
+        &sizes.saiz,
+        base,
+        offsets.saio.offsets.as_slice(),
+        traf.runs.as_slice(),
+        rules.len(),
+    )?;
+    let items = by_spots(
+        alloc,
+        file,
+        sizes.place,
+        offsets.place,
+        rules,
+        spots.as_slice(),
+    )?;
+    Ok(Auxiliary { senc: None, items })
+}
+
+/// What auxiliary data says of the samples of a track fragment. Offsets of `saio` count from the base.
+#[tactic(auto, unfolding(crate::specs::Auxiliary::auxiliary_of))]
+pub fn auxiliary_of(
+    alloc: Global,
+    file: &[u8],
+    entry: Option<Sinf>,
+    traf: &Traf,
+    base: Laying,
+    rules: &[Option<Rule>],
+) -> Result<Auxiliary, AuxFault>
+    ensures { Gives (λ x. x) result (auxiliary_of file.now entry traf.now base.at rules.now) }
+{
+    let Some(entry) = entry else {
+        return Ok(Auxiliary {
+            senc: None,
+            items: Items::new(alloc),
+        });
+    };
+    match first_senc(file, traf.senc.as_slice())? {
+        Some(at) => by_senc(alloc, rules, &at),
+        None => {
+            if traf.saiz.len() == 0 {
+                Ok(Auxiliary {
+                    senc: None,
+                    items: Items::new(alloc),
+                })
+            } else {
+                by_sizes(alloc, file, entry.scheme, traf, base, rules)
+            }
+        }
+    }
+}

@@ -1,0 +1,18 @@
+//! The samples of a movie fragment with their protection.
+#![tactic(auto)]
+
+mod auxiliary;
+mod checked;
+mod fault;
+mod fragment;
+mod groups;
+mod laying;
+mod sample_data;
+mod samples;
+mod spans;
+#[cfg(test)]
+mod tests;
+
+pub use checked::check_movie;
+pub use fault::{AuxFault, AuxKind};
+pub use fragment::{Room, resolve};

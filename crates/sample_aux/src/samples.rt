@@ -1,0 +1,192 @@
+// The samples of a track fragment.
+ghost use Rattle.std.specs.Prelude.{◌≡◌, IfOk};
+ghost use Rattle.sample_aux.specs.Faults.{Gives};
+ghost use Rattle.sample_aux.specs.InOrder.{each_passes};
+ghost use Rattle.sample_aux.specs.Resolve.{iv_of, protect_of, item_of, place_of, sample_at, samples_at, has_subs, check_place, sample_passes, samples_of};
+
+use crate::auxiliary::auxiliary_of;
+use crate::fault::{AuxFault, AuxKind};
+use crate::groups::{Protection, Rule};
+use crate::laying::{Laying, Spot};
+use crate::sample_data::rule_of;
+use crate::spans::part_of;
+use eme_types::{Bytes, Copies, EncSample, Items, Iv, KeyId, Protect, Samples};
+use frag_boxes::Traf;
+use pattern_map::check_sample;
+use prot_boxes::SencItem;
+use std::alloc::{AllocError, Global};
+
+fn iv_of(own: Option<Iv>, constant: Option<Iv>) -> Option<Iv>
+    ensures { result ≡ iv_of own constant }
+{
+    match own {
+        Some(iv) => Some(iv),
+        None => constant,
+    }
+}
+
+fn key_id(alloc: Global, kid: [u8; 16]) -> Result<KeyId, AllocError>
+    ensures { IfOk result (λ x. x ≡ kid) }
+{
+    match KeyId::new(alloc, &kid) {
+        Ok(kid) => Ok(kid),
+        Err(_) => Err(AllocError),
+    }
+}
+
+fn protect_of(
+    alloc: Global,
+    place: u64,
+    rule: Option<Rule>,
+    item: SencItem,
+) -> Result<Option<Protect>, AuxFault>
+    ensures { Gives (λ x. x) result (protect_of place rule item) }
+{
+    let Some(rule) = rule else {
+        return Ok(None);
+    };
+    let Some(iv) = iv_of(item.iv, rule.group.constant) else {
+        return Err(AuxFault {
+            place,
+            kind: AuxKind::NoAux,
+        });
+    };
+    let kid = key_id(alloc, rule.group.kid)?;
+    Ok(Some(Protect {
+        scheme: rule.scheme,
+        kid,
+        iv,
+        crypt: rule.group.crypt,
+        skip: rule.group.skip,
+        subs: item.subs,
+    }))
+}
+
+/// A copy of what auxiliary data says of sample `k`, or nothing.
+fn item_of(alloc: Global, items: &[SencItem], k: usize) -> Result<SencItem, AllocError>
+    ensures { IfOk result (λ x. x ≡ item_of items.now k) }
+{
+    match items.get(k) {
+        Some(item) => {
+            let subs = item.subs.copy()?;
+            Ok(SencItem { iv: item.iv, subs })
+        }
+        None => Ok(SencItem {
+            iv: None,
+            subs: Items::new(alloc),
+        }),
+    }
+}
+
+fn place_of(spots: &[Spot], k: usize) -> Spot
+    ensures { result ≡ place_of spots.now k }
+{
+    match spots.get(k) {
+        Some(spot) => *spot,
+        None => Spot { place: 0, size: 0 },
+    }
+}
+
+#[tactic(auto, unfolding(crate::specs::Resolve::sample_at))]
+fn sample_at(
+    alloc: Global,
+    file: &[u8],
+    place: u64,
+    spot: Spot,
+    rule: Option<Rule>,
+    item: SencItem,
+) -> Result<EncSample, AuxFault>
+    ensures { Gives (λ x. x) result (sample_at file.now place spot rule item) }
+{
+    let protect = protect_of(alloc, place, rule, item)?;
+    let bytes = Bytes::from_slice(alloc, part_of(file, spot.place, u64::from(spot.size)))?;
+    Ok(EncSample { protect, bytes })
+}
+
+#[tactic(auto, unfolding(crate::specs::Resolve::samples_at))]
+fn samples_at(
+    alloc: Global,
+    file: &[u8],
+    place: u64,
+    spots: &[Spot],
+    rules: &[Option<Rule>],
+    items: &[SencItem],
+) -> Result<Samples, AuxFault>
+    ensures { Gives (λ x. x) result (samples_at file.now place spots.now rules.now items.now) }
+{
+    let mut samples = Items::new(alloc);
+    for k in 0..spots.len() {
+        let spot = place_of(spots, k);
+        let rule = rule_of(rules, k);
+        let item = item_of(alloc, items, k)?;
+        let sample = sample_at(alloc, file, place, spot, rule, item)?;
+        samples.push(sample)?;
+    }
+    Ok(samples)
+}
+
+fn has_subs(protect: &Option<Protect>) -> bool
+    ensures { result ≡ has_subs protect.now }
+{
+    match protect {
+        None => false,
+        Some(protect) => protect.subs.len() != 0,
+    }
+}
+
+fn check_place(senc: Option<u64>, traf: u64, sample: &EncSample) -> u64
+    ensures { result ≡ check_place senc traf sample.now }
+{
+    if has_subs(&sample.protect) {
+        senc.unwrap_or(traf)
+    } else {
+        traf
+    }
+}
+
+fn check_whole(senc: Option<u64>, traf: u64, sample: &EncSample) -> Result<(), AuxFault>
+    ensures { Gives (λ x. x) result (sample_passes senc traf sample.now) }
+{
+    match check_sample(sample) {
+        Ok(()) => Ok(()),
+        Err(fault) => Err(AuxFault {
+            place: check_place(senc, traf, sample),
+            kind: AuxKind::from(fault),
+        }),
+    }
+}
+
+fn check_samples(senc: Option<u64>, traf: u64, samples: &[EncSample]) -> Result<(), AuxFault>
+    ensures { Gives (λ x. x) result (each_passes (λ s. sample_passes senc traf s) samples.now) }
+{
+    for sample in samples {
+        check_whole(senc, traf, sample)?;
+    }
+    Ok(())
+}
+
+/// The samples of a track fragment, of which places and sizes are known. Auxiliary data counts from `base`.
+#[tactic(auto, unfolding(crate::specs::Resolve::samples_of))]
+pub fn samples_of(
+    alloc: Global,
+    file: &[u8],
+    traf: &Traf,
+    base: Laying,
+    spots: &[Spot],
+    protection: &Protection,
+) -> Result<Samples, AuxFault>
+    ensures { Gives (λ x. x) result (samples_of file.now traf.now base.at spots.now protection.now) }
+{
+    let rules = protection.rules.as_slice();
+    let auxiliary = auxiliary_of(alloc, file, protection.entry, traf, base, rules)?;
+    let samples = samples_at(
+        alloc,
+        file,
+        traf.place,
+        spots,
+        rules,
+        auxiliary.items.as_slice(),
+    )?;
+    check_samples(auxiliary.senc, traf.place, samples.as_slice())?;
+    Ok(samples)
+}
