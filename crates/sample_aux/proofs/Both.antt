@@ -1,9 +1,9 @@
 -- Of two refusals the one that stands first in the file.
-use Rattle.std.proofs.Common.{◌≡◌, ◌⊎◌, inl, inr, Bool, true, false, Option, List, Result, Ok, Err, refl, sym, ap, ◌∙◌}
+use Rattle.std.proofs.Common.{◌≡◌, ◌⊎◌, inl, inr, Bool, true, false, Result, Err, refl}
 use Rattle.std.specs.Prelude.{nat_lt, if◌then◌else◌}
 use Rattle.sample_aux.specs.declared.fault.AuxKind.TheVariants.{OutOfMemory}
 use Rattle.sample_aux.specs.declared.fault.AuxFault.{AuxFault}
-use Rattle.sample_aux.specs.Groups.{both, is_memory, IsEarlier}
+use Rattle.sample_aux.specs.Groups.{both, IsEarlier}
 
 abbrev first_of : {A : Type 0} → Bool → AuxFault → AuxFault → Result A AuxFault
 first_of first e f = if first then Err f else Err e

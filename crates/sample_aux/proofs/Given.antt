@@ -1,10 +1,9 @@
 -- Reading up to the first that gives something.
-use Rattle.std.proofs.Common.{◌≡◌, ℕ, suc, ◌+◌, ◌<◌, Bool, true, false, List, [], ◌∷◌, length, get_or, drop, map, Option, Some, None, Result, Ok, Err, refl, sym, subst}
+use Rattle.std.proofs.Common.{◌≡◌, true, false, List, [], ◌∷◌, Option, Some, None, Result, Ok, Err, refl, sym, subst}
 use Rattle.std.specs.Prelude.{is_some}
 use Rattle.std.specs.Option.{option_map}
 use Rattle.iso_boxes.specs.Walk.{Found}
-use Rattle.iso_boxes.specs.Children.{◌>>=◌}
-use Rattle.sample_aux.specs.Spans.{or_else, first_given}
+use Rattle.sample_aux.specs.Spans.{first_given}
 
 pub found_here : {E A : Type 0} (read : Found → Result (Option A) E) (b : Found) (bs : List Found) (o : Option A) (total : Result (Option A) E) → is_some o ≡ true → read b ≡ Ok o → first_given read (b ∷ bs) ≡ total → total ≡ Ok o
 unfolding first_given

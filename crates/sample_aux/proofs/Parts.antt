@@ -8,7 +8,7 @@ use Rattle.frag_boxes.specs.declared.records.Movie.{Movie}
 use Rattle.frag_boxes.specs.declared.records.Traf.{Traf}
 use Rattle.sample_aux.specs.declared.fault.AuxFault.{AuxFault}
 use Rattle.sample_aux.specs.declared.laying.Laying.{Laying}
-use Rattle.sample_aux.specs.Resolve.{met, put_part, put_left, joined, all_joined, traf_resolved, trafs_resolved}
+use Rattle.sample_aux.specs.Resolve.{met, put_part, put_left, all_joined, traf_resolved, trafs_resolved}
 
 abbrev met_as : Bool → TrackPart → TrackPart → TrackPart × Option TrackPart
 met_as same q p = if same then (record q { samples = q.samples ++ p.samples }, None) else (q, Some p)

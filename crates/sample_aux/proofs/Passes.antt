@@ -1,6 +1,5 @@
 -- Checking one after the other, as a loop does.
-use Rattle.std.proofs.Common.{◌≡◌, List, [], ◌∷◌, Result, Ok, Err, refl, sym}
-use Rattle.iso_boxes.specs.Children.{◌>>=◌}
+use Rattle.std.proofs.Common.{◌≡◌, List, [], ◌∷◌, Result, Ok, Err, sym}
 use Rattle.sample_aux.specs.declared.fault.AuxFault.{AuxFault}
 use Rattle.sample_aux.specs.InOrder.{each_passes}
 

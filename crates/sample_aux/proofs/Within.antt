@@ -1,7 +1,7 @@
 -- A resolved movie fragment may be fed, and is within the room that was left.
-use Rattle.std.proofs.Common.{◌≡◌, ◌⊎◌, inl, inr, ℕ, zero, suc, ◌+◌, ◌-◌, ◌≤◌, Bool, true, false, List, [], ◌∷◌, ◌++◌, length, map, take, drop, Option, Some, None, Result, Ok, Err, refl, sym, ap, subst, ◌∙◌, arith, length-append}
-use Rattle.std.specs.Prelude.{IfOk, IsTrue, ℤ, pos, nat_lt, ◌==◌, not, ◌&&◌, ◌||◌, if◌then◌else◌, filter, unwrap_or, slice_get}
-use Rattle.std.specs.List.{list_all, list_any, sum_by}
+use Rattle.std.proofs.Common.{◌≡◌, inl, inr, ℕ, zero, suc, ◌+◌, ◌-◌, ◌≤◌, Bool, true, false, List, [], ◌∷◌, ◌++◌, length, map, take, drop, Option, Some, None, Result, Ok, Err, refl, ap, subst, arith, length-append}
+use Rattle.std.specs.Prelude.{IfOk, IsTrue, ℤ, nat_lt, ◌==◌, not, ◌&&◌, if◌then◌else◌, filter, unwrap_or}
+use Rattle.std.specs.List.{list_all, sum_by}
 use Rattle.std.specs.Option.{option_map}
 use Rattle.std.proofs.lemmas.Bool.Decides.{eqb_tells, leb_tells}
 use Rattle.std.proofs.lemmas.List.{length-take}
@@ -12,15 +12,14 @@ use Rattle.eme_types.specs.declared.sample.EncSample.{EncSample}
 use Rattle.eme_types.specs.declared.sample.Protect.{Protect}
 use Rattle.eme_types.specs.declared.media.TrackPart.{TrackPart}
 use Rattle.eme_types.specs.declared.media.Fragment.{Fragment}
-use Rattle.eme_types.specs.Fed.{is_among, are_distinct, part_track, part_samples, part_bytes, sample_bytes, has_samples, fragment_samples, fragment_bytes, are_well_formed, are_known, is_joined}
+use Rattle.eme_types.specs.Fed.{is_among, part_samples, part_bytes, sample_bytes, has_samples, fragment_samples, fragment_bytes, are_well_formed, are_known, is_joined}
 use Rattle.prot_boxes.specs.declared.senc.SencItem.{SencItem}
 use Rattle.frag_boxes.specs.declared.records.Trun.{Trun}
 use Rattle.frag_boxes.specs.declared.records.Traf.{Traf}
 use Rattle.frag_boxes.specs.declared.records.MovieTrack.{MovieTrack}
 use Rattle.frag_boxes.specs.declared.records.Movie.{Movie}
 use Rattle.frag_boxes.specs.declared.records.Moof.{Moof}
-use Rattle.pattern_map.specs.SampleFaults.{first_fault_of, first_fault}
-use Rattle.pattern_map.specs.declared.check.SampleFault.{SampleFault}
+use Rattle.pattern_map.specs.SampleFaults.{first_fault_of}
 use Rattle.pattern_map.specs.declared.check.SampleFault.TheVariants.{Sum, IvSize, Pattern}
 use Rattle.sample_aux.specs.declared.fault.AuxFault.{AuxFault}
 use Rattle.sample_aux.specs.declared.fault.AuxKind.TheVariants.{UnknownTrack, NoTrex, Description}
@@ -37,7 +36,7 @@ use Rattle.sample_aux.specs.InOrder.{in_order, learnt, each_passes}
 use Rattle.sample_aux.specs.Laying.{base_of, is_outside, size_of, spot_at, after, counted, run_at, run_laid, begun, runs_laid}
 use Rattle.sample_aux.specs.Auxiliary.{rule_of, auxiliary_of}
 use Rattle.sample_aux.specs.Resolve.{track_id, track_ids, entry_with, samples_of, traf_resolved, trafs_resolved, joined, all_joined, begin, fragment_of, resolved, track_with, place_of, item_of, protect_of, sample_at, samples_at, check_place, as_fault, sample_passes}
-use Rattle.sample_aux.proofs.Joining.{and_both, both_true, or_right, is_formed, of_track, distinct_joined, joined_of, joined_formed, joined_samples, joined_bytes, distinct_filter, filter_keeps, filter_has, sum_filter}
+use Rattle.sample_aux.proofs.Joining.{both_true, or_right, is_formed, of_track, distinct_joined, joined_of, joined_formed, joined_samples, joined_bytes, distinct_filter, filter_keeps, filter_has, sum_filter}
 
 -- what >>= gave was given by both
 pub bound : {E A B : Type 0} (x : Result A E) (f : A → Result B E) (y : B) → (x >>= f) ≡ Ok y → (a : A) × ((x ≡ Ok a) × (f a ≡ Ok y))

@@ -1,6 +1,5 @@
 -- The IVs and subsamples of samples: sample auxiliary information (ISO/IEC 23001-7 section 7, ISO/IEC 14496-12 sections 8.7.8 and 8.7.9).
-use Rattle.std.specs.Prelude.{◌≡◌, ℕ, suc, zero, ◌+◌, ℤ, pos, ◌+ℤ◌, unsigned_abs, nat_lt, ◌==◌, not, Bool, true, false, ◌&&◌, ◌||◌, List, [], ◌∷◌, ◌++◌, length, map, slice_get, unwrap_or, bytes_eq, Option, Some, None, Result, Ok, Err, if◌then◌else◌}
-use Rattle.std.specs.Int.{w8, w32}
+use Rattle.std.specs.Prelude.{ℕ, suc, zero, ◌+◌, ℤ, pos, ◌+ℤ◌, unsigned_abs, nat_lt, ◌==◌, not, Bool, true, ◌||◌, List, [], ◌∷◌, ◌++◌, length, map, slice_get, unwrap_or, bytes_eq, Option, Some, None, Result, Ok, Err, if◌then◌else◌}
 use Rattle.eme_types.specs.declared.sample.Scheme.{Scheme}
 use Rattle.iso_boxes.specs.Walk.{Found}
 use Rattle.iso_boxes.specs.Children.{◌>>=◌, required, placed}
@@ -10,19 +9,14 @@ use Rattle.prot_boxes.specs.Senc.{senc_at, item}
 use Rattle.prot_boxes.specs.Saiz.{saiz_at}
 use Rattle.prot_boxes.specs.Saio.{saio_at}
 use Rattle.prot_boxes.specs.declared.fault.ProtKind.{ProtKind}
-use Rattle.prot_boxes.specs.declared.senc.Senc.{Senc}
 use Rattle.prot_boxes.specs.declared.senc.SencItem.{SencItem}
 use Rattle.prot_boxes.specs.declared.saiz.Saiz.{Saiz}
-use Rattle.prot_boxes.specs.declared.saio.Saio.{Saio}
 use Rattle.prot_boxes.specs.declared.sinf.Sinf.{Sinf}
-use Rattle.frag_boxes.specs.declared.records.Span.{Span}
 use Rattle.frag_boxes.specs.declared.records.Trun.{Trun}
 use Rattle.frag_boxes.specs.declared.records.Traf.{Traf}
-use Rattle.sample_aux.specs.declared.fault.AuxKind.{AuxKind}
 use Rattle.sample_aux.specs.declared.fault.AuxKind.TheVariants.{CountDiffers, AuxSize, OffsetPastEnd, NoAux}
 use Rattle.sample_aux.specs.declared.fault.AuxFault.{AuxFault}
 use Rattle.sample_aux.specs.declared.groups.Rule.{Rule}
-use Rattle.sample_aux.specs.declared.groups.Protection.{Protection}
 use Rattle.sample_aux.specs.declared.auxiliary.Auxiliary.{Auxiliary}
 use Rattle.sample_aux.specs.declared.auxiliary.UsedSaiz.{UsedSaiz}
 use Rattle.sample_aux.specs.declared.auxiliary.UsedSaio.{UsedSaio}

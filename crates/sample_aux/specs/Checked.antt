@@ -1,5 +1,5 @@
 -- The protection of a movie's sample entries (ISO/IEC 14496-12 section 8.12) and its group descriptions (section 8.9.3).
-use Rattle.std.specs.Prelude.{◌≡◌, ℕ, List, [], slice_get, Option, Some, None, Result, Ok, Err}
+use Rattle.std.specs.Prelude.{ℕ, List, [], slice_get, Option, Some, None, Result, Ok, Err}
 use Rattle.iso_boxes.specs.Walk.{Found}
 use Rattle.iso_boxes.specs.Children.{◌>>=◌}
 use Rattle.prot_boxes.specs.Sinf.{sinf_at}

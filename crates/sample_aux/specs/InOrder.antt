@@ -1,5 +1,5 @@
 -- Samples are taken in order, by their numbers; tracks, sample entries and samples are checked in order.
-use Rattle.std.specs.Prelude.{ℕ, zero, suc, ◌+◌, List, [], ◌∷◌, Result, Ok, Err}
+use Rattle.std.specs.Prelude.{ℕ, zero, suc, ◌+◌, List, [], ◌∷◌, Result, Ok}
 use Rattle.iso_boxes.specs.Children.{◌>>=◌}
 use Rattle.sample_aux.specs.declared.fault.AuxFault.{AuxFault}
 

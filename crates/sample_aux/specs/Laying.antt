@@ -1,5 +1,5 @@
 -- Where the samples of a track fragment lie in the file (ISO/IEC 14496-12 sections 8.8.7 and 8.8.8).
-use Rattle.std.specs.Prelude.{◌≡◌, ℕ, ◌+◌, ◌-◌, ℤ, pos, ◌+ℤ◌, int_lt, unsigned_abs, nat_lt, Bool, ◌||◌, List, [], ◌∷◌, ◌++◌, length, slice_get, unwrap_or, Option, Some, None, Result, Ok, Err, if◌then◌else◌}
+use Rattle.std.specs.Prelude.{ℕ, ◌-◌, ℤ, pos, ◌+ℤ◌, int_lt, unsigned_abs, nat_lt, Bool, ◌||◌, List, [], ◌∷◌, ◌++◌, slice_get, unwrap_or, Option, Some, None, Result, Ok, Err, if◌then◌else◌}
 use Rattle.iso_boxes.specs.Children.{◌>>=◌}
 use Rattle.iso_boxes.specs.Reading.{has}
 use Rattle.frag_boxes.specs.declared.records.RunItem.{RunItem}

@@ -1,5 +1,5 @@
 -- A movie fragment resolved: its samples with their protection (ISO/IEC 14496-12 section 8.8, ISO/IEC 23001-7).
-use Rattle.std.specs.Prelude.{◌≡◌, ℕ, ◌+◌, ◌-◌, ℤ, pos, Bool, true, false, filter, ◌==◌, List, [], ◌∷◌, ◌++◌, length, map, slice_get, unwrap_or, Option, Some, None, Result, Ok, Err, if◌then◌else◌}
+use Rattle.std.specs.Prelude.{ℕ, ◌-◌, ℤ, pos, Bool, true, false, filter, ◌==◌, List, [], ◌∷◌, ◌++◌, length, map, slice_get, unwrap_or, Option, Some, None, Result, Ok, Err, if◌then◌else◌}
 use Rattle.std.specs.List.{flat_map}
 use Rattle.eme_types.specs.declared.sample.EncSample.{EncSample}
 use Rattle.eme_types.specs.declared.sample.Protect.{Protect}
@@ -12,11 +12,9 @@ use Rattle.eme_types.specs.Fed.{has_samples}
 use Rattle.iso_boxes.specs.Children.{◌>>=◌, required}
 use Rattle.prot_boxes.specs.declared.senc.SencItem.{SencItem}
 use Rattle.frag_boxes.specs.declared.records.Span.{Span}
-use Rattle.frag_boxes.specs.declared.records.Trex.{Trex}
 use Rattle.frag_boxes.specs.declared.records.SampleEntry.{SampleEntry}
 use Rattle.frag_boxes.specs.declared.records.MovieTrack.{MovieTrack}
 use Rattle.frag_boxes.specs.declared.records.Movie.{Movie}
-use Rattle.frag_boxes.specs.declared.records.Tfhd.{Tfhd}
 use Rattle.frag_boxes.specs.declared.records.Traf.{Traf}
 use Rattle.frag_boxes.specs.declared.records.Moof.{Moof}
 use Rattle.pattern_map.specs.SampleFaults.{first_fault}

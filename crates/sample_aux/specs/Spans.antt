@@ -1,5 +1,5 @@
 -- Boxes of the file, by their spans. A span that leaves the file stands for what of it is there.
-use Rattle.std.specs.Prelude.{ℕ, ◌-◌, List, [], ◌∷◌, ◌++◌, take, drop, map, Option, Some, None, Result, Ok, Err}
+use Rattle.std.specs.Prelude.{ℕ, ◌-◌, List, [], ◌∷◌, ◌++◌, take, drop, map, Option, Some, None, Result, Ok}
 use Rattle.iso_boxes.specs.Walk.{Found}
 use Rattle.iso_boxes.specs.Children.{◌>>=◌}
 use Rattle.frag_boxes.specs.declared.records.Span.{Span}

@@ -1,4 +1,4 @@
-use Rattle.std.proofs.Common.{◌≡◌, ◌⊎◌, ◌+◌, ℕ, drop, get_or, Option, Result, Ok, Err, inl, inr}
+use Rattle.std.proofs.Common.{◌+◌, drop, get_or, Ok, Err, inl, inr}
 use Rattle.std.proofs.lemmas.Result.{err_from_is_err_and}
 use Rattle.std.proofs.lemmas.List.{drop_all, drop_more}
 use Rattle.frag_boxes.specs.declared.records.Span.{Span}

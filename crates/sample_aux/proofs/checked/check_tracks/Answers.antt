@@ -1,8 +1,7 @@
-use Rattle.std.proofs.Common.{◌≡◌, ◌⊎◌, ◌+◌, drop, inl, inr}
+use Rattle.std.proofs.Common.{◌+◌, drop, inl, inr}
 use Rattle.std.proofs.lemmas.Result.{err_from_is_err_and}
 use Rattle.std.proofs.lemmas.List.{drop_all}
 use Rattle.frag_boxes.specs.declared.records.MovieTrack.{MovieTrack}
-use Rattle.sample_aux.specs.InOrder.{each_passes}
 use Rattle.sample_aux.specs.Checked.{track_passes}
 use Rattle.sample_aux.proofs.Runs.{drop_item}
 use Rattle.sample_aux.proofs.Passes.{one_more, broken_off, finished}

@@ -1,5 +1,5 @@
 use Rattle.std.proofs.Common.{◌≡◌, ◌∷◌, rules}
-use Rattle.std.specs.Vec.Iter.{into_iter_items, into_iter_len}
+use Rattle.std.specs.Vec.Iter.{into_iter_items}
 use Rattle.sample_aux.proofs.Parts.{one_met}
 use Rattle.sample_aux.proofs.fragment.put_part.Goals as goal
 

@@ -1,7 +1,6 @@
-use Rattle.std.proofs.Common.{◌≡◌, ◌⊎◌, ◌+◌, drop, [], inl, inr}
+use Rattle.std.proofs.Common.{◌+◌, drop, inl, inr}
 use Rattle.std.proofs.lemmas.Result.{err_from_is_err_and}
 use Rattle.std.proofs.lemmas.List.{drop_all}
-use Rattle.sample_aux.specs.Resolve.{all_joined, trafs_resolved}
 use Rattle.sample_aux.proofs.Runs.{drop_item}
 use Rattle.sample_aux.proofs.Parts.{one_more, broken_off, finished}
 use Rattle.sample_aux.proofs.fragment.resolve_trafs.Goals as goal

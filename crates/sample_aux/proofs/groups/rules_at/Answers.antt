@@ -1,10 +1,8 @@
-use Rattle.std.proofs.Common.{◌≡◌, ◌⊎◌, ◌∙◌, ℕ, ◌+◌, ◌-◌, ◌≤◌, List, Option, sym, ap, inl, inr, arith}
+use Rattle.std.proofs.Common.{◌≡◌, ◌∙◌, ℕ, ◌+◌, List, sym, inr, arith}
 use Rattle.std.proofs.lemmas.Result.{err_from_is_err_and}
 use Rattle.prot_boxes.specs.declared.sbgp.SbgpItem.{SbgpItem}
-use Rattle.sample_aux.specs.declared.groups.Rule.{Rule}
 use Rattle.sample_aux.specs.Groups.{index_at, rule_at, rules_at}
 use Rattle.sample_aux.proofs.InOrder.{one_more, broken_off, finished}
-use Rattle.sample_aux.proofs.groups.rules_at.Invariants.{IsSoFar}
 use Rattle.sample_aux.proofs.groups.rules_at.Goals as goal
 
 -- what the cursor gives is the index of sample k

@@ -1,8 +1,8 @@
-use Rattle.std.proofs.Common.{◌≡◌, ◌⊎◌, ◌+◌, drop, inl, inr}
+use Rattle.std.proofs.Common.{◌+◌, drop, inl, inr}
 use Rattle.std.proofs.lemmas.Result.{err_from_is_err_and}
 use Rattle.std.proofs.lemmas.List.{drop_all}
 use Rattle.sample_aux.specs.Laying.{runs_laid}
-use Rattle.sample_aux.proofs.Runs.{with_front, one_more, broken_off, finished, drop_item}
+use Rattle.sample_aux.proofs.Runs.{one_more, broken_off, finished, drop_item}
 use Rattle.sample_aux.proofs.laying.runs_laid.Goals as goal
 
 pub returns-in_err-spots : goal.returns-in_err-spots

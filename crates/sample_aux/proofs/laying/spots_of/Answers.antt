@@ -1,7 +1,7 @@
-use Rattle.std.proofs.Common.{◌≡◌, ◌⊎◌, ◌-◌, List, ℕ, refl, sym, inl, inr, ap, ◌∙◌}
+use Rattle.std.proofs.Common.{ℕ, inl, inr, ap}
 use Rattle.std.proofs.lemmas.Result.{err_from_is_err_and}
 use Rattle.sample_aux.specs.declared.laying.Laying.{Laying}
-use Rattle.sample_aux.specs.InOrder.{in_order, learnt}
+use Rattle.sample_aux.specs.InOrder.{in_order}
 use Rattle.sample_aux.specs.Laying.{size_of, spot_at, after}
 use Rattle.sample_aux.proofs.InOrder.{one_more, broken_off, finished, learnt_more}
 use Rattle.sample_aux.proofs.laying.spots_of.Goals as goal

@@ -1,6 +1,5 @@
-use Rattle.std.proofs.Common.{◌≡◌, ◌+◌, drop}
+use Rattle.std.proofs.Common.{◌+◌, drop}
 use Rattle.std.proofs.lemmas.List.{drop_all}
-use Rattle.sample_aux.specs.Auxiliary.{offset_of, follow, by_run}
 use Rattle.sample_aux.proofs.Runs.{drop_item}
 use Rattle.sample_aux.proofs.Following.{one_run, no_run}
 use Rattle.sample_aux.proofs.sample_data.by_run.Goals as goal

@@ -1,6 +1,6 @@
-use Rattle.std.proofs.Common.{◌≡◌, ◌⊎◌, ◌-◌, ℕ, length, inl, inr}
+use Rattle.std.proofs.Common.{ℕ, length, inl, inr}
 use Rattle.std.proofs.lemmas.Result.{err_from_is_err_and}
-use Rattle.sample_aux.specs.Auxiliary.{data_at, rule_of, spot_of, by_spots}
+use Rattle.sample_aux.specs.Auxiliary.{data_at, rule_of, spot_of}
 use Rattle.sample_aux.proofs.InOrder.{one_more, broken_off, finished}
 use Rattle.sample_aux.proofs.sample_data.by_spots.Goals as goal
 

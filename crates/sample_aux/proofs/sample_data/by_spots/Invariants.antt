@@ -1,4 +1,4 @@
-use Rattle.std.proofs.Common.{◌≡◌, ◌-◌, ℕ, length}
+use Rattle.std.proofs.Common.{◌≡◌, ◌-◌, length}
 use Rattle.sample_aux.specs.InOrder.{in_order}
 use Rattle.sample_aux.specs.Auxiliary.{data_at, rule_of, spot_of, by_spots}
 use Rattle.sample_aux.proofs.InOrder.{with_front}

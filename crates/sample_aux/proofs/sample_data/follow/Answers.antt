@@ -1,5 +1,3 @@
-use Rattle.std.proofs.Common.{◌≡◌, ◌-◌}
-use Rattle.sample_aux.specs.Auxiliary.{follow}
 use Rattle.sample_aux.proofs.Following.{one_more, finished}
 use Rattle.sample_aux.proofs.sample_data.follow.Goals as goal
 

@@ -1,6 +1,6 @@
-use Rattle.std.proofs.Common.{◌≡◌, ◌⊎◌, ◌-◌, ℕ, length, inl, inr}
+use Rattle.std.proofs.Common.{ℕ, length, inl, inr}
 use Rattle.std.proofs.lemmas.Result.{err_from_is_err_and}
-use Rattle.sample_aux.specs.Resolve.{item_of, place_of, sample_at, samples_at}
+use Rattle.sample_aux.specs.Resolve.{item_of, place_of, sample_at}
 use Rattle.sample_aux.specs.Auxiliary.{rule_of}
 use Rattle.sample_aux.proofs.InOrder.{one_more, broken_off, finished}
 use Rattle.sample_aux.proofs.samples.samples_at.Goals as goal

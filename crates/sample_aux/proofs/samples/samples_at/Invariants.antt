@@ -1,4 +1,4 @@
-use Rattle.std.proofs.Common.{◌≡◌, ◌-◌, ℕ, length}
+use Rattle.std.proofs.Common.{◌≡◌, ◌-◌, length}
 use Rattle.sample_aux.specs.InOrder.{in_order}
 use Rattle.sample_aux.specs.Resolve.{item_of, place_of, sample_at, samples_at}
 use Rattle.sample_aux.specs.Auxiliary.{rule_of}

@@ -1,7 +1,7 @@
-use Rattle.std.proofs.Common.{◌≡◌, ◌∙◌, sym, ap, subst, ℕ, ◌-◌, List, length, get_or, take, drop}
+use Rattle.std.proofs.Common.{◌∙◌, sym, ap, subst, ℕ, ◌-◌, List, length, get_or, take, drop}
 use Rattle.prot_boxes.specs.declared.sbgp.SbgpItem.{SbgpItem}
 use Rattle.sample_aux.specs.Groups.{index_at}
-use Rattle.sample_aux.proofs.Indices.{Same, Same-past, Same-now, Same-next, Same-end, here, none_left, cut, empty}
+use Rattle.sample_aux.proofs.Indices.{Same, Same-past, Same-now, Same-end, here, none_left, cut, empty}
 use Rattle.sample_aux.proofs.groups.Cursor.next.Goals as goal
 
 pub returns-in-empty-clause-index : goal.returns-in-empty-clause-index
