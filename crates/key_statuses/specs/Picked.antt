@@ -1,0 +1,8 @@
+-- A pick as it is answered.
+use Rattle.std.specs.Prelude.{ℕ, Option, Some, None}
+use Rattle.eme_types.specs.declared.kid.KeyBytes.{KeyBytes}
+use Rattle.key_statuses.specs.declared.pick.Pick.{Pick}
+
+abbrev pub picked : Option (ℕ × KeyBytes) → Option Pick
+picked None = None
+picked (Some p) = Some (record { session = p.0; key = p.1 })

@@ -1,0 +1,98 @@
+-- The statuses of a key table at a moment (Encrypted Media Extensions, MediaKeyStatus and 'Update Key Statuses').
+use Rattle.std.specs.Prelude.{ℕ, Bool, true, false, ◌&&◌, not, if◌then◌else◌, List, [], ◌∷◌, map, Option, Some, None, nat_lt}
+use Rattle.std.specs.List.Sorted.{IsStrictlySortedBy}
+use Rattle.std.specs.Ordering.{nat_cmp}
+use Rattle.std.specs.Str.{bytes_eq}
+use Rattle.std.specs.Cmp.Lexicographic.{slice_cmp}
+use Rattle.std.specs.declared.cmp.Ordering.{Ordering}
+use Rattle.std.specs.declared.cmp.Ordering.TheVariants.{Less, Equal, Greater}
+use Rattle.eme_types.specs.declared.kid.KeyBytes.{KeyBytes}
+use Rattle.eme_types.specs.declared.kid.Status.{Status}
+use Rattle.eme_types.specs.declared.kid.Status.TheVariants.{Usable, Expired, Released}
+use Rattle.key_statuses.specs.declared.table.KnownKey.{KnownKey}
+
+-- there is no expiration, or it is after the moment
+abbrev pub is_usable_at : Option ℕ → ℕ → Bool
+is_usable_at None moment = true
+is_usable_at (Some end) moment = nat_lt moment end
+
+-- the status of a key that is held: usable where there is no expiration or it is after the moment
+abbrev pub held_status : Option ℕ → ℕ → Status
+held_status None moment = Usable
+held_status (Some end) moment = if nat_lt moment end then Usable else Expired
+
+abbrev pub is_usable : Status → Bool
+is_usable Usable = true
+is_usable Expired = false
+is_usable Released = false
+
+-- the status of a known id, where its session's held keys have that status
+abbrev pub status_of : Option KeyBytes → Status → Status
+status_of None held = Released
+status_of (Some key) held = held
+
+abbrev pub is_less : Ordering → Bool
+is_less Less = true
+is_less Equal = false
+is_less Greater = false
+
+-- octet by octet; a prefix comes before its extension
+abbrev pub comes_before : List ℕ → List ℕ → Bool
+comes_before a b = is_less (slice_cmp nat_cmp a b)
+
+abbrev pub insert_status : List ℕ × Status → List (List ℕ × Status) → List (List ℕ × Status)
+insert_status s [] = s ∷ []
+insert_status s (t ∷ more) = if comes_before s.0 t.0 then s ∷ (t ∷ more) else t ∷ insert_status s more
+
+abbrev pub statuses_from : List (List ℕ × Status) → List KnownKey → Status → List (List ℕ × Status)
+statuses_from list [] held = list
+statuses_from list (known ∷ more) held = statuses_from (insert_status (known.kid, status_of known.key held) list) more held
+
+-- the status of each known id, sorted by id
+abbrev pub statuses : List KnownKey → Status → List (List ℕ × Status)
+statuses table held = statuses_from [] table held
+
+-- a known id with its status
+abbrev pub reported_as : Status → KnownKey → List ℕ × Status
+reported_as held known = (known.kid, status_of known.key held)
+
+abbrev pub kid_of : List ℕ × Status → List ℕ
+kid_of s = s.0
+
+-- strictly ascending by id, octet by octet, so that each id stands once; a prefix comes before its extension
+abbrev pub AreSorted : List (List ℕ × Status) → Type 0
+AreSorted list = IsStrictlySortedBy (slice_cmp nat_cmp) (map kid_of list)
+
+abbrev pub same_key : Option KeyBytes → Option KeyBytes → Bool
+same_key None None = true
+same_key None (Some b) = false
+same_key (Some a) None = false
+same_key (Some a) (Some b) = bytes_eq a.bytes b.bytes
+
+-- the same ids with the same keys, in the same order
+abbrev pub same_table : List KnownKey → List KnownKey → Bool
+same_table [] [] = true
+same_table [] (y ∷ ys) = false
+same_table (x ∷ xs) [] = false
+same_table (x ∷ xs) (y ∷ ys) = (bytes_eq x.kid y.kid && same_key x.key y.key) && same_table xs ys
+
+abbrev pub same_status : Status → Status → Bool
+same_status Usable Usable = true
+same_status Usable Expired = false
+same_status Usable Released = false
+same_status Expired Usable = false
+same_status Expired Expired = true
+same_status Expired Released = false
+same_status Released Usable = false
+same_status Released Expired = false
+same_status Released Released = true
+
+abbrev pub same_statuses : List (List ℕ × Status) → List (List ℕ × Status) → Bool
+same_statuses [] [] = true
+same_statuses [] (y ∷ ys) = false
+same_statuses (x ∷ xs) [] = false
+same_statuses (x ∷ xs) (y ∷ ys) = (bytes_eq x.0 y.0 && same_status x.1 y.1) && same_statuses xs ys
+
+-- the statuses of the table, or the table itself, differ from before; the first status of each pair is that of a held key
+abbrev pub is_changed : List KnownKey → Status → List KnownKey → Status → Bool
+is_changed old before new after = not (same_table old new && same_statuses (statuses old before) (statuses new after))
