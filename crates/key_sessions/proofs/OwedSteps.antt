@@ -1,0 +1,238 @@
+-- Calls, jobs and tasks keep what is owed, and their effects settle just what no longer is.
+use Rattle.std.proofs.Common.{◌≡◌, ℕ, ◌+◌, ◌<◌, ◌≤◌, Bool, true, false, List, [], ◌∷◌, ◌++◌, length, length-append, Option, Some, None, Result, Ok, Err, refl, sym, ◌∙◌, arith, append_assoc}
+use Rattle.std.proofs.lemmas.List.{append-nil}
+use Rattle.clearkey_json.specs.Request.{request_text}
+use Rattle.eme_types.specs.declared.call.Event.{Event}
+use Rattle.eme_types.specs.declared.call.Event.TheVariants.{KeyStatuses, Message}
+use Rattle.std.specs.Prelude.{if◌then◌else◌, nat_lt, codes}
+use Rattle.std.specs.Str.{bytes_eq}
+use Rattle.std.proofs.lemmas.Bool.Decides.{Decides-ltb}
+use Rattle.eme_types.specs.declared.call.Settled.{Settled}
+use Rattle.eme_types.specs.declared.call.Settled.TheVariants.{Resolved, ResolvedFalse, Rejected}
+use Rattle.eme_types.specs.declared.call.DomError.{DomError}
+use Rattle.eme_types.specs.declared.call.DomError.TheVariants.{InvalidState, TypeFault, NotSupported, Quota, UnknownLabel}
+use Rattle.eme_types.specs.declared.call.AppCall.{AppCall}
+use Rattle.eme_types.specs.declared.call.AppCall.TheVariants.{Access, Create, Request, Update, Close, Remove, Certificate}
+use Rattle.eme_types.specs.declared.call.Effect.{Effect}
+use Rattle.eme_types.specs.declared.call.Effect.TheVariants.{Closed, Promise, Fired}
+use Rattle.eme_types.specs.declared.media.InitKind.{InitKind}
+use Rattle.clearkey_json.specs.declared.key_set.KeySet.{KeySet}
+use Rattle.clearkey_json.specs.declared.key_set.KeySetFault.{KeySetFault}
+use Rattle.clearkey_json.specs.KeySet.{key_set}
+use Rattle.init_data.specs.declared.fault.InitFault.{InitFault}
+use Rattle.init_data.specs.InitData.{kids_of}
+use Rattle.key_system_access.specs.Configs.{configs_of}
+use Rattle.task_queue.specs.declared.work.Job.{Job}
+use Rattle.task_queue.specs.declared.work.Job.TheVariants.{Request as RequestJob, Update as UpdateJob, Close as CloseJob, Remove as RemoveJob}
+use Rattle.task_queue.specs.declared.work.Task.{Task}
+use Rattle.task_queue.specs.declared.work.Task.TheVariants.{Reject, RequestDone, UpdateDone, CloseDone, RemoveDone, Report, Fire, Resume}
+use Rattle.key_statuses.specs.Table.{grant_all}
+use Rattle.eme_types.specs.declared.kid.KeyBytes.{KeyBytes}
+use Rattle.key_sessions.specs.Machine.{SessionState, Machine, new_session, session_at, change_session}
+use Rattle.key_sessions.specs.Keys.{usable_key, held_in, held_key}
+use Rattle.key_sessions.specs.Owed.{one_if, job_owes, task_owes, jobs_owe, tasks_owe, pending, IsOwed, times_settled, Asked, Steady}
+use Rattle.key_sessions.specs.Steps.{Done, unmoved, with_session, queue_task, update_statuses, report_of, statuses_now}
+use Rattle.task_queue.specs.Pending.{settle_in}
+use Rattle.key_sessions.specs.Calls.{access_result, answer_now, reject_now, answer_later, create_call, add_session, find_label, is_ending, request_on, request_started, request_kind, start_request, update_on, update_or, or_empty, state_fault, close_on, start_closing, remove_on, remove_or, after_call}
+use Rattle.key_sessions.specs.Jobs.{request_job, request_error, grant_set, with_set, is_changed_by, found, update_job, take_job, after_job, cleared, without_keys}
+use Rattle.key_sessions.specs.Tasks.{run_task, take_task, after_task, is_closed, request_done, next_id, reports_from, after_tick}
+use Rattle.key_sessions.proofs.SessionLists.{length-change_session}
+use Rattle.key_sessions.proofs.Held.{held_alike, held_more}
+use Rattle.key_sessions.proofs.Owed.{one_same, times_one, times_more, jobs_more, tasks_more, pending_within, pending_done, pending_new, pending_settled, length-settle_in, reports_owe}
+
+-- sessions that keep every usable key and stay at most 64
+record Keeps (ss ss' : List SessionState) : Type 0 where
+  held : (moment n : ℕ) (kid : List ℕ) (key : KeyBytes) → held_in moment ss n kid ≡ Some key → held_in moment ss' n kid ≡ Some key
+  few : length ss ≤ 64 → length ss' ≤ 64
+
+-- what a call does, and what it leaves
+pub record Called (m : Machine) (d : Done) : Type 0 where
+  pub asked : Asked m d
+  pub held : (n : ℕ) (kid : List ℕ) (key : KeyBytes) → held_key m n kid ≡ Some key → held_key d.machine n kid ≡ Some key
+  pub few : length m.sessions ≤ 64 → length d.machine.sessions ≤ 64
+
+as_were : (ss : List SessionState) → Keeps ss ss
+as_were ss = record { held = λ moment n kid key at. at; few = λ le. le }
+
+changed_one : (ss : List SessionState) (n : ℕ) (f : SessionState → SessionState) → ((moment : ℕ) (s : SessionState) (kid : List ℕ) → usable_key moment (f s) kid ≡ usable_key moment s kid) → Keeps ss (change_session ss n f)
+changed_one ss n f same = record { held = λ moment k kid key at. held_alike moment ss n k f kid (λ s. same moment s kid) ∙ at; few = λ le. rw (length-change_session ss n f) le }
+
+one_more : (ss : List SessionState) (s : SessionState) → length ss < 64 → Keeps ss (ss ++ s ∷ [])
+one_more ss s lt = record { held = λ moment k kid key at. held_more moment ss s k kid key at; few = λ le. omega (arith, lt, length-append ss (s ∷ [])) }
+
+now : (m : Machine) (ss : List SessionState) (how : Settled) → Keeps m.sessions ss → Called m (answer_now how (record m { sessions = ss }))
+now m ss how keeps = record {
+  asked = record {
+    owed = λ owed p. owed p ∙ sym (pending_done m.promises how p);
+    balance = λ p. omega (arith, times_one p (length m.promises + 1) how, pending_done m.promises how p);
+    more = length-append m.promises (Some how ∷ []);
+  };
+  held = λ n kid key at. keeps.held m.moment n kid key at;
+  few = keeps.few;
+}
+
+later : (m : Machine) (ss : List SessionState) (job : ℕ → Job) → ((p q : ℕ) → job_owes p (job q) ≡ one_if q p) → Keeps m.sessions ss → Called m (answer_later job (record m { sessions = ss }))
+later m ss job names keeps = record {
+  asked = record {
+    owed = λ owed p. omega (arith, owed p, jobs_more p m.jobs (job (length m.promises + 1)), names p (length m.promises + 1), pending_new m.promises p);
+    balance = λ p. omega (arith, pending_new m.promises p);
+    more = length-append m.promises (None ∷ []);
+  };
+  held = λ n kid key at. keeps.held m.moment n kid key at;
+  few = keeps.few;
+}
+
+plain : (m : Machine) (how : Settled) → Called m (answer_now how m)
+plain m how = now m m.sessions how (as_were m.sessions)
+
+choose : (m : Machine) (b : Bool) (x y : Done) → Called m x → Called m y → Called m (if b then x else y)
+choose m true x y p q = p
+choose m false x y p q = q
+
+called_added : (m : Machine) (label : List ℕ) (b : Bool) → nat_lt (length m.sessions) 64 ≡ b → Called m (if b then answer_now Resolved (add_session label m) else reject_now Quota m)
+called_added m label true e = now m (add_session label m).sessions Resolved (one_more m.sessions (new_session label) ((Decides-ltb (length m.sessions) 64).0 e))
+called_added m label false e = plain m (Rejected Quota)
+
+called_create : (m : Machine) (label kind : List ℕ) → Called m (create_call label kind m)
+called_create m label kind = choose m (bytes_eq kind (codes "temporary")) _ _ (called_added m label (nat_lt (length m.sessions) 64) refl) (plain m (Rejected NotSupported))
+
+called_started : (m : Machine) (ss : List SessionState) (n : ℕ) (init : List ℕ) (r : Result InitKind DomError) → Keeps m.sessions ss → Called m (request_started n init r (record m { sessions = ss }))
+called_started m ss n init (Err error) keeps = now m ss (Rejected error) keeps
+called_started m ss n init (Ok kind) keeps = later m ss (λ p. RequestJob n kind init p) (λ p q. refl) keeps
+
+called_request : (m : Machine) (kind init : List ℕ) (o : Option (ℕ × SessionState)) → Called m (request_on kind init m o)
+called_request m kind init None = plain m (Rejected UnknownLabel)
+called_request m kind init (Some (n, s)) = choose m (is_ending s) _ _ (plain m (Rejected InvalidState)) (choose m s.uninitialized _ _ (called_started m (change_session m.sessions n start_request) n init (request_kind kind init) (changed_one m.sessions n start_request (λ moment s kid. refl))) (plain m (Rejected InvalidState)))
+
+called_update_or : (m : Machine) (n : ℕ) (response : List ℕ) (o : Option DomError) → Called m (update_or n response o m)
+called_update_or m n response (Some error) = plain m (Rejected error)
+called_update_or m n response None = later m m.sessions (λ p. UpdateJob n response p) (λ p q. refl) (as_were m.sessions)
+
+called_update : (m : Machine) (response : List ℕ) (o : Option (ℕ × SessionState)) → Called m (update_on response m o)
+called_update m response None = plain m (Rejected UnknownLabel)
+called_update m response (Some (n, s)) = called_update_or m n response (or_empty (state_fault s) response)
+
+called_close : (m : Machine) (o : Option (ℕ × SessionState)) → Called m (close_on m o)
+called_close m None = plain m (Rejected UnknownLabel)
+called_close m (Some (n, s)) = choose m (is_ending s) _ _ (plain m Resolved) (choose m s.callable _ _ (later m (change_session m.sessions n start_closing) (λ p. CloseJob n p) (λ p q. refl) (changed_one m.sessions n start_closing (λ moment s kid. refl))) (plain m (Rejected InvalidState)))
+
+called_remove_or : (m : Machine) (n : ℕ) (o : Option DomError) → Called m (remove_or n o m)
+called_remove_or m n (Some error) = plain m (Rejected error)
+called_remove_or m n None = later m m.sessions (λ p. RemoveJob n p) (λ p q. refl) (as_were m.sessions)
+
+called_remove : (m : Machine) (o : Option (ℕ × SessionState)) → Called m (remove_on m o)
+called_remove m None = plain m (Rejected UnknownLabel)
+called_remove m (Some (n, s)) = called_remove_or m n (state_fault s)
+
+pub called : (m : Machine) (call : AppCall) → Called m (after_call call m)
+called m (Access name list) = plain m (access_result name (configs_of list))
+called m (Create label kind) = called_create m label kind
+called m (Request label kind init) = called_request m kind init (find_label m label)
+called m (Update label response) = called_update m response (find_label m label)
+called m (Close label) = called_close m (find_label m label)
+called m (Remove label) = called_remove m (find_label m label)
+called m (Certificate cert) = plain m ResolvedFalse
+
+pub asked_call : (m : Machine) (call : AppCall) → Asked m (after_call call m)
+asked_call m call = (called m call).asked
+
+-- a job's promise moves to the task that it queues
+moved : (m : Machine) (ss : List SessionState) (job : Job) (js : List Job) (task : Task) → m.jobs ≡ job ∷ js → ((q : ℕ) → task_owes q task ≡ job_owes q job) → IsOwed m → Steady m (unmoved (record m { sessions = ss; jobs = js; tasks = m.tasks ++ task ∷ [] }))
+moved m ss job js task e same owed = record {
+  owed = λ q. (let before : jobs_owe q (job ∷ js) + tasks_owe q m.tasks ≡ pending m.promises q = rw e at (owed q) in omega (arith, before, same q, tasks_more q m.tasks (task ∷ [])));
+  balance = λ q. omega arith;
+  more = refl;
+}
+
+moved_request : (m : Machine) (n p : ℕ) (kind : InitKind) (init : List ℕ) (js : List Job) (r : Result (List (List ℕ)) InitFault) → m.jobs ≡ RequestJob n kind init p ∷ js → IsOwed m → Steady m (unmoved (request_job n p r (record m { jobs = js })))
+moved_request m n p kind init js (Ok kids) e owed = moved m m.sessions (RequestJob n kind init p) js (RequestDone n kids p) e (λ q. refl) owed
+moved_request m n p kind init js (Err fault) e owed = moved m m.sessions (RequestJob n kind init p) js (Reject p (request_error fault)) e (λ q. refl) owed
+
+moved_grant : (m : Machine) (n p : ℕ) (response : List ℕ) (set : KeySet) (s : SessionState) (js : List Job) → m.jobs ≡ UpdateJob n response p ∷ js → IsOwed m → Steady m (unmoved (grant_set n p set s (record m { jobs = js })))
+moved_grant m n p response set s js e owed = go (nat_lt 256 (length (grant_all s.keys set.keys))) where
+  go : (b : Bool) → Steady m (unmoved (if b then queue_task (Reject p Quota) (record m { jobs = js }) else queue_task (UpdateDone n (is_changed_by m.moment s (with_set set s)) p) (with_session n (with_set set) (record m { jobs = js }))))
+  go true = moved m m.sessions (UpdateJob n response p) js (Reject p Quota) e (λ q. refl) owed
+  go false = moved m (change_session m.sessions n (with_set set)) (UpdateJob n response p) js (UpdateDone n (is_changed_by m.moment s (with_set set s)) p) e (λ q. refl) owed
+
+moved_update : (m : Machine) (n p : ℕ) (response : List ℕ) (js : List Job) (r : Result KeySet KeySetFault) → m.jobs ≡ UpdateJob n response p ∷ js → IsOwed m → Steady m (unmoved (update_job n p r (record m { jobs = js })))
+moved_update m n p response js (Ok set) e owed = moved_grant m n p response set (found (session_at m.sessions n)) js e owed
+moved_update m n p response js (Err fault) e owed = moved m m.sessions (UpdateJob n response p) js (Reject p TypeFault) e (λ q. refl) owed
+
+pub steady_same : (m : Machine) → IsOwed m → Steady m (unmoved m)
+steady_same m owed = record { owed = owed; balance = λ p. omega arith; more = refl }
+
+steady_take : (m : Machine) (js : List Job) → m.jobs ≡ js → IsOwed m → Steady m (unmoved (take_job js m))
+steady_take m [] e owed = steady_same m owed
+steady_take m (RequestJob n kind init p ∷ js) e owed = moved_request m n p kind init js (kids_of kind init) e owed
+steady_take m (UpdateJob n response p ∷ js) e owed = moved_update m n p response js (key_set response) e owed
+steady_take m (CloseJob n p ∷ js) e owed = moved m (change_session m.sessions n cleared) (CloseJob n p) js (CloseDone n p) e (λ q. refl) owed
+steady_take m (RemoveJob n p ∷ js) e owed = moved m (change_session m.sessions n without_keys) (RemoveJob n p) js (RemoveDone n p) e (λ q. refl) owed
+
+pub steady_job : (m : Machine) → IsOwed m → Steady m (after_job m)
+steady_job m owed = steady_take m m.jobs refl owed
+
+-- effects and tasks that settle and owe nothing
+abbrev Quiet : List Effect → Type 0
+Quiet es = (q : ℕ) → times_settled q es ≡ 0
+
+abbrev Free : List Task → Type 0
+Free ts = (q : ℕ) → tasks_owe q ts ≡ 0
+
+-- the front task settles its promise, and queues what owes nothing
+finished : (m : Machine) (ss : List SessionState) (task : Task) (ts more : List Task) (p : ℕ) (how : Settled) (es fs : List Effect) → m.tasks ≡ task ∷ ts → ((q : ℕ) → task_owes q task ≡ one_if p q) → Free more → Quiet es → fs ≡ es ++ Promise p how ∷ [] → IsOwed m → (us : List Task) → us ≡ ts ++ more → Steady m (record { machine = record m { sessions = ss; tasks = us; promises = settle_in m.promises p how }; effects = fs })
+finished m ss task ts more p how es fs e names free quiet is owed us queued =
+    let before : (q : ℕ) → jobs_owe q m.jobs + tasks_owe q (task ∷ ts) ≡ pending m.promises q = λ q. rw e at (owed q) in
+    let one : pending m.promises p ≡ 1 = omega (arith, before p, names p, one_same p, pending_within m.promises p) in
+    record {
+      owed = λ q. rw queued (omega (arith, before q, names q, free q, tasks_more q ts more, pending_settled m.promises p q how one));
+      balance = λ q. rw is (omega (arith, times_more q es (Promise p how ∷ []), quiet q, times_one q p how, pending_settled m.promises p q how one));
+      more = length-settle_in m.promises p how;
+    }
+
+-- the front task settles nothing
+ran : (m : Machine) (ss : List SessionState) (fired : List Event) (task : Task) (ts more : List Task) (es : List Effect) → m.tasks ≡ task ∷ ts → ((q : ℕ) → task_owes q task ≡ 0) → Free more → Quiet es → IsOwed m → (us : List Task) → us ≡ ts ++ more → Steady m (record { machine = record m { sessions = ss; tasks = us; fired = fired }; effects = es })
+ran m ss fired task ts more es e names free quiet owed us queued =
+    let before : (q : ℕ) → jobs_owe q m.jobs + tasks_owe q (task ∷ ts) ≡ pending m.promises q = λ q. rw e at (owed q) in
+    record {
+      owed = λ q. rw queued (omega (arith, before q, names q, free q, tasks_more q ts more));
+      balance = λ q. omega (arith, quiet q);
+      more = refl;
+    }
+
+free_two : (n : ℕ) → Free (Fire (KeyStatuses n) ∷ (Resume ∷ []))
+free_two n q = omega arith
+
+free_none : Free []
+free_none q = refl
+
+quiet_report : (n moment : ℕ) (o : Option SessionState) → Quiet (report_of n moment o)
+quiet_report n moment None q = refl
+quiet_report n moment (Some s) q = refl
+
+steady_task : (m : Machine) (ts us : List Task) → m.tasks ≡ us → IsOwed m → (task : Task) → us ≡ task ∷ ts → Steady m (run_task task (record m { tasks = ts }))
+steady_task m ts us e owed (Reject p error) is = finished m m.sessions (Reject p error) ts [] p (Rejected error) [] (Promise p (Rejected error) ∷ []) (e ∙ is) (λ q. refl) free_none (λ q. refl) refl owed ts (sym (append-nil ts))
+steady_task m ts us e owed (RequestDone n kids p) is = finished m (request_done n kids (record m { tasks = ts })).sessions (RequestDone n kids p) ts (Fire (Message n (next_id m) (request_text kids)) ∷ []) p Resolved [] (Promise p Resolved ∷ []) (e ∙ is) (λ q. refl) (λ q. omega arith) (λ q. refl) refl owed (ts ++ Fire (Message n (next_id m) (request_text kids)) ∷ []) refl
+steady_task m ts us e owed (UpdateDone n true p) is = finished m (change_session m.sessions n (statuses_now m.moment)) (UpdateDone n true p) ts (Fire (KeyStatuses n) ∷ (Resume ∷ [])) p Resolved (report_of n m.moment (session_at m.sessions n)) (report_of n m.moment (session_at m.sessions n) ++ Promise p Resolved ∷ []) (e ∙ is) (λ q. refl) (free_two n) (quiet_report n m.moment (session_at m.sessions n)) refl owed ((ts ++ Fire (KeyStatuses n) ∷ []) ++ Resume ∷ []) (append_assoc ts (Fire (KeyStatuses n) ∷ []) (Resume ∷ []))
+steady_task m ts us e owed (UpdateDone n false p) is = finished m m.sessions (UpdateDone n false p) ts [] p Resolved [] (Promise p Resolved ∷ []) (e ∙ is) (λ q. refl) free_none (λ q. refl) refl owed ts (sym (append-nil ts))
+steady_task m ts us e owed (CloseDone n p) is = finished m (change_session (change_session m.sessions n (statuses_now m.moment)) n (λ s. record s { closed = true })) (CloseDone n p) ts (Fire (KeyStatuses n) ∷ (Resume ∷ [])) p Resolved (report_of n m.moment (session_at m.sessions n) ++ Closed n ∷ []) ((report_of n m.moment (session_at m.sessions n) ++ Closed n ∷ []) ++ Promise p Resolved ∷ []) (e ∙ is) (λ q. refl) (free_two n) (λ q. times_more q (report_of n m.moment (session_at m.sessions n)) (Closed n ∷ []) ∙ omega (arith, quiet_report n m.moment (session_at m.sessions n) q)) refl owed ((ts ++ Fire (KeyStatuses n) ∷ []) ++ Resume ∷ []) (append_assoc ts (Fire (KeyStatuses n) ∷ []) (Resume ∷ []))
+steady_task m ts us e owed (RemoveDone n p) is = finished m (change_session m.sessions n (statuses_now m.moment)) (RemoveDone n p) ts (Fire (KeyStatuses n) ∷ (Resume ∷ [])) p Resolved (report_of n m.moment (session_at m.sessions n)) (report_of n m.moment (session_at m.sessions n) ++ Promise p Resolved ∷ []) (e ∙ is) (λ q. refl) (free_two n) (quiet_report n m.moment (session_at m.sessions n)) refl owed ((ts ++ Fire (KeyStatuses n) ∷ []) ++ Resume ∷ []) (append_assoc ts (Fire (KeyStatuses n) ∷ []) (Resume ∷ []))
+steady_task m ts us e owed (Report n) is = go (is_closed (session_at m.sessions n)) where
+  go : (b : Bool) → Steady m (if b then unmoved (record m { tasks = ts }) else update_statuses n (unmoved (record m { tasks = ts })))
+  go true = ran m m.sessions m.fired (Report n) ts [] [] (e ∙ is) (λ q. refl) free_none (λ q. refl) owed ts (sym (append-nil ts))
+  go false = ran m (change_session m.sessions n (statuses_now m.moment)) m.fired (Report n) ts (Fire (KeyStatuses n) ∷ (Resume ∷ [])) (report_of n m.moment (session_at m.sessions n)) (e ∙ is) (λ q. refl) (free_two n) (quiet_report n m.moment (session_at m.sessions n)) owed ((ts ++ Fire (KeyStatuses n) ∷ []) ++ Resume ∷ []) (append_assoc ts (Fire (KeyStatuses n) ∷ []) (Resume ∷ []))
+steady_task m ts us e owed (Fire event) is = ran m m.sessions (m.fired ++ event ∷ []) (Fire event) ts [] (Fired event ∷ []) (e ∙ is) (λ q. refl) free_none (λ q. refl) owed ts (sym (append-nil ts))
+steady_task m ts us e owed Resume is = ran m m.sessions m.fired Resume ts [] [] (e ∙ is) (λ q. refl) free_none (λ q. refl) owed ts (sym (append-nil ts))
+
+steady_taken : (m : Machine) (us : List Task) → m.tasks ≡ us → IsOwed m → Steady m (take_task us m)
+steady_taken m [] e owed = steady_same m owed
+steady_taken m (task ∷ ts) e owed = steady_task m ts (task ∷ ts) e owed task refl
+
+pub steady_front : (m : Machine) → IsOwed m → Steady m (after_task m)
+steady_front m owed = steady_taken m m.tasks refl owed
+
+pub steady_tick : (m : Machine) (moment : ℕ) → IsOwed m → Steady m (after_tick moment m)
+steady_tick m moment owed = record {
+  owed = λ q. omega (arith, owed q, tasks_more q m.tasks (reports_from m.moment moment 1 m.sessions), reports_owe q m.moment moment 1 m.sessions);
+  balance = λ q. omega arith;
+  more = refl;
+}

@@ -1,0 +1,71 @@
+-- What the front job does: the parallel part of a session algorithm (Encrypted Media Extensions section 6).
+use Rattle.std.specs.Prelude.{ℕ, if◌then◌else◌, nat_lt, Bool, List, [], ◌∷◌, map, length, Option, Some, None, Result, Ok, Err}
+use Rattle.eme_types.specs.declared.call.DomError.{DomError}
+use Rattle.eme_types.specs.declared.call.DomError.TheVariants.{TypeFault, NotSupported, Quota}
+use Rattle.clearkey_json.specs.declared.key_set.KeySet.{KeySet}
+use Rattle.clearkey_json.specs.declared.key_set.KeySetFault.{KeySetFault}
+use Rattle.clearkey_json.specs.KeySet.{key_set}
+use Rattle.init_data.specs.declared.fault.InitFault.{InitFault}
+use Rattle.init_data.specs.declared.fault.InitFault.TheVariants.{Invalid, NoKids, OutOfMemory}
+use Rattle.init_data.specs.InitData.{kids_of}
+use Rattle.task_queue.specs.declared.work.Job.{Job}
+use Rattle.task_queue.specs.declared.work.Job.TheVariants.{Request, Update, Close, Remove}
+use Rattle.task_queue.specs.declared.work.Task.TheVariants.{Reject, RequestDone, UpdateDone, CloseDone, RemoveDone}
+use Rattle.key_statuses.specs.Table.{grant_all, released}
+use Rattle.key_statuses.specs.Statuses.{held_status, is_changed}
+use Rattle.key_sessions.specs.Machine.{SessionState, Machine, session_at, new_session}
+use Rattle.key_sessions.specs.Steps.{Done, unmoved, queue_task, with_session}
+
+-- initialization data outside its format; data that names no key id. What the data says never is that memory is wanted
+abbrev pub request_error : InitFault → DomError
+request_error Invalid = TypeFault
+request_error NoKids = NotSupported
+request_error OutOfMemory = TypeFault
+
+abbrev pub request_job : ℕ → ℕ → Result (List (List ℕ)) InitFault → Machine → Machine
+request_job n p (Ok kids) m = queue_task (RequestDone n kids p) m
+request_job n p (Err fault) m = queue_task (Reject p (request_error fault)) m
+
+-- the keys of the set are granted in order, and its expiration, or none, replaces the session's
+abbrev pub with_set : KeySet → SessionState → SessionState
+with_set set s = record s { keys = grant_all s.keys set.keys; expiration = set.expires }
+
+-- a table or its statuses differ, at a moment
+abbrev pub is_changed_by : ℕ → SessionState → SessionState → Bool
+is_changed_by moment old new = is_changed old.keys (held_status old.expiration moment) new.keys (held_status new.expiration moment)
+
+-- the session of a job is there
+abbrev pub found : Option SessionState → SessionState
+found None = new_session []
+found (Some s) = s
+
+-- a session may know 256 key ids
+abbrev pub grant_set : ℕ → ℕ → KeySet → SessionState → Machine → Machine
+grant_set n p set s m =
+    if nat_lt 256 (length (grant_all s.keys set.keys)) then queue_task (Reject p Quota) m
+    else queue_task (UpdateDone n (is_changed_by m.moment s (with_set set s)) p) (with_session n (with_set set) m)
+
+abbrev pub update_job : ℕ → ℕ → Result KeySet KeySetFault → Machine → Machine
+update_job n p (Ok set) m = grant_set n p set (found (session_at m.sessions n)) m
+update_job n p (Err fault) m = queue_task (Reject p TypeFault) m
+
+abbrev pub cleared : SessionState → SessionState
+cleared s = record s { keys = []; expiration = None }
+
+abbrev pub without_keys : SessionState → SessionState
+without_keys s = record s { keys = map released s.keys; expiration = None }
+
+abbrev pub run_job : Job → Machine → Machine
+run_job (Request n kind init p) m = request_job n p (kids_of kind init) m
+run_job (Update n response p) m = update_job n p (key_set response) m
+run_job (Close n p) m = queue_task (CloseDone n p) (with_session n cleared m)
+run_job (Remove n p) m = queue_task (RemoveDone n p) (with_session n without_keys m)
+
+-- the front job is taken
+abbrev pub take_job : List Job → Machine → Machine
+take_job [] m = m
+take_job (job ∷ jobs) m = run_job job (record m { jobs = jobs })
+
+-- the application sees nothing of it yet
+abbrev pub after_job : Machine → Done
+after_job m = unmoved (take_job m.jobs m)

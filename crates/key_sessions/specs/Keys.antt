@@ -1,0 +1,34 @@
+-- Which keys can be used now.
+use Rattle.std.specs.Prelude.{ℕ, ◌+◌, if◌then◌else◌, List, [], ◌∷◌, Option, Some, None}
+use Rattle.eme_types.specs.declared.kid.KeyBytes.{KeyBytes}
+use Rattle.key_statuses.specs.Table.{key_in}
+use Rattle.key_statuses.specs.Statuses.{held_status, is_usable}
+use Rattle.key_sessions.specs.Machine.{SessionState, Machine, session_at}
+
+-- the key that a session holds under an id, where it is not closed and the moment is before its expiration, if it has one
+abbrev pub usable_key : ℕ → SessionState → List ℕ → Option KeyBytes
+usable_key moment s kid = if s.closed then None else (if is_usable (held_status s.expiration moment) then key_in s.keys kid else None)
+
+abbrev pub key_of : ℕ → Option SessionState → List ℕ → Option KeyBytes
+key_of moment None kid = None
+key_of moment (Some s) kid = usable_key moment s kid
+
+-- the key that the session with the number holds usable at a moment
+abbrev pub held_in : ℕ → List SessionState → ℕ → List ℕ → Option KeyBytes
+held_in moment sessions n kid = key_of moment (session_at sessions n) kid
+
+-- the key that it holds usable now
+abbrev pub held_key : Machine → ℕ → List ℕ → Option KeyBytes
+held_key m n kid = held_in m.moment m.sessions n kid
+
+abbrev pub or_else : Option KeyBytes → ℕ → Option (ℕ × KeyBytes) → Option (ℕ × KeyBytes)
+or_else None n rest = rest
+or_else (Some key) n rest = Some (n, key)
+
+-- the first of these sessions, numbered from n, that holds a usable key under the id, and the key
+abbrev pub pick_from : ℕ → ℕ → List SessionState → List ℕ → Option (ℕ × KeyBytes)
+pick_from moment n [] kid = None
+pick_from moment n (s ∷ more) kid = or_else (usable_key moment s kid) n (pick_from moment (n + 1) more kid)
+
+abbrev pub pick : Machine → List ℕ → Option (ℕ × KeyBytes)
+pick m kid = pick_from m.moment 1 m.sessions kid

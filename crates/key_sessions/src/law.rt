@@ -1,0 +1,11 @@
+// A law of the steps, for the layers above.
+ghost use Rattle.key_sessions.specs.Law.{CallsAsk, JobsHandOn, TasksSettle, TicksKeep};
+
+/// A call makes one promise, which it settles or leaves to a job; every other step settles just the promises that were
+/// pending before it and are not after it; and each pending promise stays owed by one queued job or task.
+pub fn promises_are_owed_until_they_are_settled()
+    ensures calls { CallsAsk }
+    ensures jobs { JobsHandOn }
+    ensures tasks { TasksSettle }
+    ensures ticks { TicksKeep }
+{}

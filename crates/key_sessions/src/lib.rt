@@ -1,0 +1,22 @@
+//! The algorithms of sessions: what each call, job and task does, and what the time does.
+#![tactic(auto)]
+
+mod access;
+mod call_plan;
+mod change;
+mod ended;
+mod fault;
+mod job_plan;
+mod law;
+mod losses;
+mod lost;
+mod session;
+mod sessions;
+mod task_plan;
+#[cfg(test)]
+mod tests;
+
+pub use fault::StepFault;
+pub use law::promises_are_owed_until_they_are_settled;
+pub use lost::Lost;
+pub use sessions::Sessions;

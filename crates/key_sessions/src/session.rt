@@ -1,0 +1,119 @@
+// One session.
+ghost use Rattle.std.specs.Prelude.{◌≡◌, ◌+◌, [], map, Some, None, IfOk, MatchOption, IsTrue, ◌↔◌};
+ghost use Rattle.key_sessions.specs.SessionOf.{session_of};
+ghost use Rattle.key_sessions.specs.Machine.{new_session, session_at};
+ghost use Rattle.key_sessions.specs.Keys.{usable_key};
+ghost use Rattle.key_sessions.specs.Calls.{is_ending, state_fault as fault_of_state, or_empty};
+ghost use Rattle.key_sessions.specs.Changes.{LabelFound};
+
+use eme_types::{Bytes, Copies, DomError, KeyBytes, KeyId, StatusList};
+use key_statuses::{KeyTable, usable_at};
+use std::alloc::{AllocError, Global};
+
+/// A session with its key table.
+#[derive(Drop)]
+pub struct Session {
+    pub label: Bytes,
+    pub id: Option<u32>,
+    pub uninitialized: bool,
+    pub callable: bool,
+    pub closing: bool,
+    pub closed: bool,
+    pub keys: KeyTable,
+    pub expiration: Option<u64>,
+    pub reported: StatusList,
+}
+
+/// A session as it is created.
+pub fn labelled(alloc: Global, label: &Bytes) -> Result<Session, AllocError>
+    ensures { IfOk result (λ s. session_of s ≡ new_session label.now) }
+{
+    let label = label.copy()?;
+    Ok(Session {
+        label,
+        id: None,
+        uninitialized: true,
+        callable: false,
+        closing: false,
+        closed: false,
+        keys: KeyTable::new(alloc),
+        expiration: None,
+        reported: StatusList::new(alloc),
+    })
+}
+
+/// The place of the first session with the label.
+pub fn find_label(sessions: &[Session], label: &[u8]) -> Option<usize>
+    ensures { LabelFound sessions.now label.now result }
+{
+    for (i, session) in sessions.iter().enumerate() {
+        if session.label.as_slice() == label {
+            return Some(i);
+        }
+    }
+    None
+}
+
+/// The session with the number, from 1.
+pub fn find_number(sessions: &[Session], number: u32) -> Option<&Session>
+    ensures { MatchOption result (session_at (map session_of sessions.now) number ≡ None) (λ s. session_at (map session_of sessions.now) number ≡ Some (session_of s.now)) }
+{
+    if number == 0 {
+        return None;
+    }
+    let at = (number - 1) as usize;
+    if at < sessions.len() {
+        return Some(&sessions[at]);
+    }
+    None
+}
+
+/// Closing or closed.
+pub fn ends(session: &Session) -> bool
+    ensures { result ≡ is_ending (session_of session.now) }
+{
+    session.closing || session.closed
+}
+
+/// Why a session refuses an update or a removal by its state.
+pub fn state_fault(session: &Session) -> Option<DomError>
+    ensures { result ≡ fault_of_state (session_of session.now) }
+{
+    if ends(session) {
+        return Some(DomError::InvalidState);
+    }
+    if !session.callable {
+        return Some(DomError::InvalidState);
+    }
+    None
+}
+
+/// Why a session refuses an update at once.
+pub fn update_fault(session: &Session, response: &[u8]) -> Option<DomError>
+    ensures { result ≡ or_empty (fault_of_state (session_of session.now)) response.now }
+{
+    match state_fault(session) {
+        Some(error) => Some(error),
+        None => {
+            if response.is_empty() {
+                Some(DomError::TypeFault)
+            } else {
+                None
+            }
+        }
+    }
+}
+
+/// The key that a session holds usable under an id.
+pub fn usable(session: &Session, moment: u64, kid: &KeyId) -> Option<KeyBytes>
+    ensures { result ≡ usable_key moment (session_of session.now) kid.now }
+{
+    if session.closed {
+        return None;
+    }
+    if usable_at(session.expiration, moment) {
+        session.keys.holds(kid)
+    } else {
+        None
+    }
+}

@@ -1,0 +1,373 @@
+use crate::{Sessions, StepFault};
+use eme_types::{AppCall, Bytes, Effect, Event, KeyBytes, KeyId, Settled, StatusList};
+use key_statuses::Picks;
+use std::alloc::{AllocError, Global};
+use std::str::from_utf8;
+use std::test::Fail;
+
+fn bytes(alloc: Global, text: &str) -> Result<Bytes, AllocError> {
+    Bytes::from_slice(alloc, text.as_bytes())
+}
+
+/// The first word, and the rest.
+fn cut(text: &str) -> (&str, &str) {
+    match text.split_once(' ') {
+        Some(parts) => parts,
+        None => (text, ""),
+    }
+}
+
+fn add(text: &mut String, piece: &str) -> Result<(), AllocError> {
+    if !text.is_empty() {
+        text.push_str("; ")?;
+    }
+    text.push_str(piece)
+}
+
+/// The bytes of a key id as numbers.
+fn add_kid(text: &mut String, kid: &KeyId) -> Result<(), AllocError> {
+    for byte in kid.bytes() {
+        write!(text, ".{byte}")?;
+    }
+    Ok(())
+}
+
+fn text_of(bytes: &Bytes) -> &str {
+    match from_utf8(bytes.as_slice()) {
+        Ok(text) => text,
+        Err(_) => "not UTF-8",
+    }
+}
+
+fn settled(alloc: Global, promise: u64, how: &Settled) -> Result<String, AllocError> {
+    match how {
+        Settled::Resolved => format!(in alloc; "promise {promise} resolved"),
+        Settled::ResolvedFalse => format!(in alloc; "promise {promise} resolved false"),
+        Settled::ResolvedConfig(config) => {
+            let config = text_of(config);
+            format!(in alloc; "promise {promise} resolved {config}")
+        }
+        Settled::Rejected(error) => format!(in alloc; "promise {promise} rejected {error:?}"),
+    }
+}
+
+fn fired(alloc: Global, event: &Event) -> Result<String, AllocError> {
+    match event {
+        Event::Message { session, id, text } => {
+            let text = text_of(text);
+            format!(in alloc; "message {session} {id} {text}")
+        }
+        Event::KeyStatuses { session } => format!(in alloc; "keystatuseschange {session}"),
+        Event::WaitingForKey { track } => format!(in alloc; "waitingforkey {track}"),
+        Event::Encrypted { .. } => format!(in alloc; "encrypted"),
+    }
+}
+
+fn reported(alloc: Global, session: u32, list: &StatusList) -> Result<String, AllocError> {
+    let mut text = format!(in alloc; "statuses {session}")?;
+    for (kid, status) in list.as_slice() {
+        text.push_str(" ")?;
+        add_kid(&mut text, kid)?;
+        write!(&mut text, "={status:?}")?;
+    }
+    Ok(text)
+}
+
+/// What the last step did, and which keys it ended.
+fn told(alloc: Global, sessions: &Sessions) -> Result<String, AllocError> {
+    let mut text = String::new(alloc);
+    for effect in sessions.effects() {
+        let piece = match effect {
+            Effect::Statuses { session, list } => reported(alloc, *session, list)?,
+            Effect::Closed { session } => format!(in alloc; "closed {session}")?,
+            Effect::Promise { promise, how } => settled(alloc, *promise, how)?,
+            Effect::Fired { event } => fired(alloc, event)?,
+        };
+        add(&mut text, piece.as_str())?;
+    }
+    for lost in sessions.lost() {
+        let session = lost.session;
+        let mut piece = format!(in alloc; "lost {session} ")?;
+        add_kid(&mut piece, &lost.kid)?;
+        add(&mut text, piece.as_str())?;
+    }
+    if text.is_empty() {
+        text.push_str("nothing")?;
+    }
+    Ok(text)
+}
+
+/// A key set, from an expiration or `-`, and of each key its id and itself as they stand there.
+fn key_set(alloc: Global, words: &str) -> Result<String, AllocError> {
+    let (expires, pairs) = cut(words);
+    let mut text = String::from_str(alloc, "{\"keys\":[")?;
+    let mut first = true;
+    for pair in pairs.split(' ') {
+        let (kid, k) = match pair.split_once(':') {
+            Some(parts) => parts,
+            None => (pair, ""),
+        };
+        if !first {
+            text.push_str(",")?;
+        }
+        first = false;
+        write!(
+            &mut text,
+            "{{\"kty\":\"oct\",\"kid\":\"{kid}\",\"k\":\"{k}\"}}"
+        )?;
+    }
+    text.push_str("]")?;
+    if expires != "-" {
+        write!(&mut text, ",\"expires\":{expires}")?;
+    }
+    text.push_str("}")?;
+    Ok(text)
+}
+
+/// The call of a line: the verb, the label or name, and data. `keys` is an update with a key set.
+fn call_of(alloc: Global, line: &str) -> Result<AppCall, AllocError> {
+    let (verb, words) = cut(line);
+    let (name, rest) = cut(words);
+    let label = bytes(alloc, name)?;
+    match verb {
+        "access" => Ok(AppCall::Access {
+            name: label,
+            list: bytes(alloc, rest)?,
+        }),
+        "create" => Ok(AppCall::Create {
+            label,
+            kind: bytes(alloc, rest)?,
+        }),
+        "request" => {
+            let (kind, init) = cut(rest);
+            Ok(AppCall::Request {
+                label,
+                kind: bytes(alloc, kind)?,
+                init: bytes(alloc, init)?,
+            })
+        }
+        "update" => Ok(AppCall::Update {
+            label,
+            response: bytes(alloc, rest)?,
+        }),
+        "keys" => Ok(AppCall::Update {
+            label,
+            response: bytes(alloc, key_set(alloc, rest)?.as_str())?,
+        }),
+        "close" => Ok(AppCall::Close { label }),
+        "remove" => Ok(AppCall::Remove { label }),
+        _ => Ok(AppCall::Certificate { cert: label }),
+    }
+}
+
+/// Sets a later moment.
+fn clock(sessions: &mut Sessions, moment: u64) -> Result<(), AllocError> {
+    if sessions.moment() <= moment {
+        sessions.tick(moment)?;
+    }
+    Ok(())
+}
+
+/// Does what a line says: a job, a task, every task, a moment or a call.
+fn act(alloc: Global, sessions: &mut Sessions, line: &str) -> Result<(), Fail> {
+    match cut(line) {
+        ("job", _) => sessions.job()?,
+        ("task", _) => {
+            sessions.task()?;
+        }
+        ("tasks", _) => {
+            for _ in 0..9 {
+                if sessions.task_left() {
+                    sessions.task()?;
+                }
+            }
+        }
+        ("clock", moment) => clock(sessions, moment.parse::<u64>()?)?,
+        _ => {
+            let call = call_of(alloc, line)?;
+            sessions.call(&call)?;
+        }
+    }
+    Ok(())
+}
+
+/// The first line that does not do what stands behind its arrow, with what it did.
+fn differing(alloc: Global, sessions: &mut Sessions, lines: &[u8]) -> Result<String, Fail> {
+    for row in from_utf8(lines)?.lines() {
+        if let Some((line, want)) = row.split_once(" -> ") {
+            act(alloc, sessions, line)?;
+            let text = told(alloc, sessions)?;
+            if text.as_str() != want {
+                return Ok(format!(in alloc; "{line} -> {text}")?);
+            }
+        }
+    }
+    Ok(String::new(alloc))
+}
+
+const CALLS: &[u8] = br#"
+create a persistent-license -> promise 1 rejected NotSupported
+create a temporary -> promise 2 resolved
+update b x -> promise 3 rejected UnknownLabel
+update a -> promise 4 rejected InvalidState
+request a keyids -> promise 5 rejected TypeFault
+request a keyids {"kids":["AQ"]} -> promise 6 rejected InvalidState
+create b temporary -> promise 7 resolved
+request b webm x -> promise 8 rejected NotSupported
+close b -> promise 9 rejected InvalidState
+certificate x -> promise 10 resolved false
+access  [{}] -> promise 11 rejected TypeFault
+access org.w3.clearkey {} -> promise 12 rejected TypeFault
+access org.w3.clearkey [{"videoCapabilities":[{"contentType":""},{"contentType":"video/mp4"}]}] -> promise 13 rejected NotSupported
+access org.w3.clearkey [{"videoCapabilities":[{"contentType":"video/mp4; codecs=\"xyz1\""}]},{"initDataTypes":["webm","cenc"],"videoCapabilities":[{"contentType":"video/mp4; codecs=\"avc1.42E01E\""}]}] -> promise 14 resolved {"label":"","initDataTypes":["cenc"],"audioCapabilities":[],"videoCapabilities":[{"contentType":"video/mp4; codecs=\"avc1.42E01E\"","robustness":""}],"distinctiveIdentifier":"not-allowed","persistentState":"not-allowed","sessionTypes":["temporary"]}
+"#;
+
+const OPENED: &[u8] = br#"
+create a temporary -> promise 1 resolved
+request a keyids {"kids":["AQ"]} -> nothing
+job -> nothing
+task -> promise 2 resolved
+task -> message 1 1 {"kids":["AQ"],"type":"temporary"}
+"#;
+
+const UPDATED: &[u8] = br#"
+update a {"keys":[]} -> nothing
+job -> nothing
+task -> promise 3 rejected TypeFault
+keys a - Ag:K34VFiiu0qar9xWICc9PPA AQ:K34VFiiu0qar9xWICc9PPA AQA:K34VFiiu0qar9xWICc9PPA -> nothing
+job -> nothing
+task -> statuses 1 .1=Usable .1.0=Usable .2=Usable; promise 4 resolved
+task -> keystatuseschange 1
+task -> nothing
+close a -> nothing
+close a -> promise 6 resolved
+keys a - AQ:K34VFiiu0qar9xWICc9PPA -> promise 7 rejected InvalidState
+job -> lost 1 .2; lost 1 .1; lost 1 .1.0
+task -> statuses 1; closed 1; promise 5 resolved
+task -> keystatuseschange 1
+task -> nothing
+"#;
+
+const LOST: &[u8] = br#"
+keys a - AQ:K34VFiiu0qar9xWICc9PPA -> nothing
+job -> nothing
+keys a - AQ:K34VFiiu0qar9xWICc9PPA -> nothing
+job -> nothing
+keys a - AQ:AAAAAAAAAAAAAAAAAAAAAA AQ:K34VFiiu0qar9xWICc9PPA -> nothing
+job -> nothing
+keys a - AQ:AAAAAAAAAAAAAAAAAAAAAA -> nothing
+job -> lost 1 .1
+tasks -> nothing
+remove a -> nothing
+job -> lost 1 .1
+task -> statuses 1 .1=Released; promise 7 resolved
+tasks -> nothing
+keys a 1000 AQ:K34VFiiu0qar9xWICc9PPA -> nothing
+job -> nothing
+tasks -> nothing
+clock 999 -> nothing
+clock 1000 -> lost 1 .1
+task -> statuses 1 .1=Expired
+task -> keystatuseschange 1
+task -> nothing
+keys a - AQ:K34VFiiu0qar9xWICc9PPA -> nothing
+job -> nothing
+"#;
+
+const QUOTA: &[u8] = br#"
+keys a - AAZZ:K34VFiiu0qar9xWICc9PPA -> nothing
+job -> nothing
+task -> promise 4 rejected Quota
+keys a - AA01:AAAAAAAAAAAAAAAAAAAAAA -> nothing
+job -> nothing
+task -> promise 5 resolved
+keys a - AA00:K34VFiiu0qar9xWICc9PPA -> nothing
+job -> lost 1 .0.13.52
+"#;
+
+/// A session that can be updated.
+fn callable(alloc: Global) -> Result<Sessions, Fail> {
+    let mut sessions = Sessions::new(alloc);
+    let _other = differing(alloc, &mut sessions, OPENED)?;
+    Ok(sessions)
+}
+
+#[test]
+fn calls_are_refused_for_the_first_cause(rt: HostRuntime) -> Result<(), Fail> {
+    let mut sessions = Sessions::new(rt.alloc());
+    assert!(rt; differing(rt.alloc(), &mut sessions, CALLS)?.is_empty());
+    Ok(())
+}
+
+#[test]
+fn a_session_is_opened_updated_and_closed(rt: HostRuntime) -> Result<(), Fail> {
+    let mut sessions = Sessions::new(rt.alloc());
+    assert!(rt; differing(rt.alloc(), &mut sessions, OPENED)?.is_empty());
+    assert!(rt; differing(rt.alloc(), &mut sessions, UPDATED)?.is_empty());
+    assert!(rt; !sessions.job_left());
+    assert_eq!(rt; sessions.job(), Err(StepFault::Empty));
+    assert!(rt; !sessions.task_left());
+    assert_eq!(rt; sessions.task(), Err(StepFault::Empty));
+    Ok(())
+}
+
+#[test]
+fn keys_are_lost_by_change_removal_and_time(rt: HostRuntime) -> Result<(), Fail> {
+    let mut sessions = callable(rt.alloc())?;
+    assert!(rt; differing(rt.alloc(), &mut sessions, LOST)?.is_empty());
+    Ok(())
+}
+
+/// An update with 256 key ids of three bytes each.
+fn many_keys(alloc: Global) -> Result<String, AllocError> {
+    let mut line = String::from_str(alloc, "keys a -")?;
+    for n in 0..256u32 {
+        write!(&mut line, " AA{n:02x}:AAAAAAAAAAAAAAAAAAAAAA")?;
+    }
+    Ok(line)
+}
+
+#[test]
+fn a_session_knows_256_key_ids(rt: HostRuntime) -> Result<(), Fail> {
+    let mut sessions = callable(rt.alloc())?;
+    let many = many_keys(rt.alloc())?;
+    act(rt.alloc(), &mut sessions, many.as_str())?;
+    act(rt.alloc(), &mut sessions, "job")?;
+    act(rt.alloc(), &mut sessions, "tasks")?;
+    assert!(rt; differing(rt.alloc(), &mut sessions, QUOTA)?.is_empty());
+    let known = KeyId::new(rt.alloc(), &[0, 13, 53])?;
+    let unknown = KeyId::new(rt.alloc(), &[0, 6, 89])?;
+    match sessions.choose(&known) {
+        Some(pick) => {
+            assert_eq!(rt; pick.session, 1);
+            assert_eq!(rt; pick.key, KeyBytes { bytes: [0; 16] });
+        }
+        None => assert!(rt; false, "no pick"),
+    }
+    assert!(rt; sessions.choose(&unknown).is_none());
+    Ok(())
+}
+
+#[test]
+fn there_are_at_most_64_sessions(rt: HostRuntime) -> Result<(), Fail> {
+    let mut sessions = Sessions::new(rt.alloc());
+    for _ in 0..64 {
+        act(rt.alloc(), &mut sessions, "create a temporary")?;
+    }
+    let lines = b"create a temporary -> promise 65 rejected Quota";
+    assert!(rt; differing(rt.alloc(), &mut sessions, lines)?.is_empty());
+    sessions.keeps();
+    Ok(())
+}
+
+#[test]
+fn an_event_has_its_room(rt: HostRuntime) -> Result<(), Fail> {
+    let mut sessions = Sessions::new(rt.alloc());
+    sessions.reserve_events(2)?;
+    sessions.queue_event(Event::WaitingForKey { track: 7 });
+    let lines = b"task -> waitingforkey 7";
+    assert!(rt; differing(rt.alloc(), &mut sessions, lines)?.is_empty());
+    assert_eq!(rt; sessions.take_effects().len(), 1);
+    assert_eq!(rt; sessions.effects().len(), 0);
+    Ok(())
+}
