@@ -1,0 +1,9 @@
+pub mod Revokes
+pub mod Deliveries
+pub mod Holds
+pub mod Picks
+pub mod Shown
+pub mod Lists
+pub mod Sound
+pub mod Readiness
+pub mod Fitting

@@ -1,0 +1,13 @@
+pub mod TracksState
+pub mod Claims
+pub mod Changes
+pub mod Choice
+pub mod Contract
+pub mod Slots
+pub mod Holds
+pub mod SlotsKept
+pub mod TrackValue
+pub mod TrackKept
+pub mod Feeds
+pub mod Fits
+pub mod Kept
