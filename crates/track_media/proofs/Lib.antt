@@ -4,3 +4,5 @@ pub mod GatheringLemmas
 pub mod SectionLemmas
 pub mod Standing
 pub mod Sound
+pub mod Tracks
+pub mod TopBoxes

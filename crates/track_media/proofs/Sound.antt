@@ -135,7 +135,7 @@ among_end : (ts : List ℕ) (id t : ℕ) → is_among (ts ++ id ∷ []) t ≡ (i
 among_end [] id t = or_none (id == t)
 among_end (u ∷ ts) id t = rw (among_end ts id t) (or_group (u == t) (is_among ts t) (id == t))
 
-distinct_end : (ts : List ℕ) (id : ℕ) → are_distinct ts ≡ true → is_among ts id ≡ false → are_distinct (ts ++ id ∷ []) ≡ true
+pub distinct_end : (ts : List ℕ) (id : ℕ) → are_distinct ts ≡ true → is_among ts id ≡ false → are_distinct (ts ++ id ∷ []) ≡ true
 distinct_end [] id e n = refl
 distinct_end (t ∷ ts) id e n =
     let both = two_tests (not (is_among ts t)) (are_distinct ts) e in
@@ -151,11 +151,11 @@ pub record SoundFragments (g : Gathering) (fs : List Fragment) : Type 0 where
   pub samples : sum_by fragment_samples fs + g.known.samples ≡ max_samples
   pub bytes : sum_by fragment_bytes fs + g.known.bytes ≡ max_bytes
 
-one_more : {A : Type 0} (p : A → Bool) (xs : List A) (x : A) → list_all p xs ≡ true → p x ≡ true → list_all p (xs ++ x ∷ []) ≡ true
+pub one_more : {A : Type 0} (p : A → Bool) (xs : List A) (x : A) → list_all p xs ≡ true → p x ≡ true → list_all p (xs ++ x ∷ []) ≡ true
 one_more p [] x e h = rw h refl
 one_more p (y ∷ xs) x e h = let both = two_tests (p y) (list_all p xs) e in rw (both.0, one_more p xs x both.1 h) refl
 
-sum_end : {A : Type 0} (f : A → ℕ) (xs : List A) (x : A) → sum_by f (xs ++ x ∷ []) ≡ sum_by f xs + f x
+pub sum_end : {A : Type 0} (f : A → ℕ) (xs : List A) (x : A) → sum_by f (xs ++ x ∷ []) ≡ sum_by f xs + f x
 sum_end f xs x = sum_by_push f xs x
 
 both_hold : (b c : Bool) → b ≡ true → c ≡ true → (b && c) ≡ true

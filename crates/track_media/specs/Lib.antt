@@ -1,6 +1,9 @@
 pub mod Text
 pub mod ListLine
 pub mod SampleList
+pub mod Refusals
+pub mod Mp4
+pub mod FileParts
 pub mod File
 pub mod Pieces
 pub mod Views

@@ -6,11 +6,17 @@ mod gathering;
 mod kind;
 mod line;
 mod list;
+mod mp4;
+#[cfg(test)]
+mod mp4_tests;
 mod number;
 mod pieces;
+mod refusals;
+mod room;
 mod sample;
 #[cfg(test)]
 mod tests;
+mod top;
 mod words;
 
 pub use file::parse_media;

@@ -57,8 +57,11 @@ fn parts_stand_in_the_order_of_the_tracks(rt: HostRuntime) -> Result<(), Fail> {
 #[test]
 fn the_first_broken_line_is_refused(rt: HostRuntime) -> Result<(), Fail> {
     for (text, place, kind) in [
-        (b"SMPL 1".as_slice(), 0, MediaKind::Line),
-        (b"SMPL 1\ntrack 1\ntrack 1\n", 15, MediaKind::TrackId),
+        (
+            b"SMPL 1\ntrack 1\ntrack 1\n".as_slice(),
+            15,
+            MediaKind::TrackId,
+        ),
         (b"SMPL 1\n\n", 7, MediaKind::Line),
         (b"SMPL 1\ntrack  1\n", 7, MediaKind::Line),
         (b"SMPL 1\ntrack 4294967296", 7, MediaKind::Line),

@@ -1,0 +1,6 @@
+use Rattle.std.proofs.Common.{◌≡◌, map, take}
+use Rattle.sample_aux.specs.Resolve.{track_id}
+use Rattle.track_media.proofs.mp4.track_ids.Given as goal
+
+abbrev pub invariant-loop-track : goal.invariant-loop-track
+invariant-loop-track l = l.ids ≡ map track_id (take l.track-index l.tracks)

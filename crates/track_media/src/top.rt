@@ -1,0 +1,105 @@
+// A box at the top level of an MP4 file.
+ghost use Rattle.std.specs.Prelude.{◌≡◌, ◌+◌, ◌<◌, ◌^◌, length, IfOk};
+ghost use Rattle.iso_boxes.specs.Walk.{found};
+ghost use Rattle.track_media.specs.File.{GivesMedia};
+ghost use Rattle.track_media.specs.FileParts.{HasTracks, IsWithin, Fits};
+ghost use Rattle.track_media.specs.Mp4.{top_box, movie_at, fragment_at, top_part_at};
+
+use crate::kind::{MediaFault, MediaKind};
+use eme_types::Fragment;
+use frag_boxes::{Movie, read_moof, read_moov};
+use iso_boxes::BoxRef;
+use sample_aux::{Room, check_movie, resolve};
+use std::alloc::Global;
+
+/// The types of boxes that matter at the top level.
+#[derive(Clone, Copy)]
+pub enum TopBox {
+    Moov,
+    Moof,
+    Other,
+}
+
+/// What is read of one box at the top level.
+#[derive(Drop)]
+pub enum TopPart {
+    Movie(Movie),
+    Fragment(Fragment),
+    Other,
+}
+
+/// What a box has to know of those before it.
+#[derive(Drop)]
+pub struct Seen {
+    pub movie: Option<Movie>,
+    /// What the limits leave.
+    pub room: Room,
+}
+
+#[tactic(auto, unfolding(crate::specs::Mp4::top_box))]
+fn top_box(kind: [u8; 4]) -> TopBox
+    ensures { result ≡ top_box kind }
+{
+    if kind == *b"moov" {
+        TopBox::Moov
+    } else if kind == *b"moof" {
+        TopBox::Moof
+    } else {
+        TopBox::Other
+    }
+}
+
+#[tactic(auto, unfolding(crate::specs::Mp4::movie_at))]
+fn read_movie(alloc: Global, file: &[u8], at: &BoxRef<'_>) -> Result<Movie, MediaFault>
+    requires { at.now.body_place + length at.now.body.now < 2 ^ 64 }
+    ensures value { GivesMedia result (movie_at file.now (found at.now)) }
+    ensures tracks { IfOk result (λ m. HasTracks m) }
+{
+    let movie = read_moov(alloc, at)?;
+    check_movie(alloc, file, &movie)?;
+    Ok(movie)
+}
+
+#[tactic(auto, unfolding(crate::specs::Mp4::fragment_at))]
+fn read_fragment(
+    alloc: Global,
+    file: &[u8],
+    movie: &Movie,
+    room: Room,
+    at: &BoxRef<'_>,
+) -> Result<Fragment, MediaFault>
+    requires { at.now.body_place + length at.now.body.now < 2 ^ 64 }
+    ensures value { GivesMedia result (fragment_at file.now movie.now room (found at.now)) }
+    ensures within { IfOk result (λ f. IsWithin room movie.now f) }
+{
+    let moof = read_moof(alloc, at)?;
+    let fragment = resolve(alloc, file, movie, &moof, room)?;
+    Ok(fragment)
+}
+
+/// Reads a box, in the knowledge of those before it.
+pub fn read_top_part(
+    alloc: Global,
+    file: &[u8],
+    seen: &Seen,
+    at: &BoxRef<'_>,
+) -> Result<TopPart, MediaFault>
+    requires { at.now.body_place + length at.now.body.now < 2 ^ 64 }
+    ensures value { GivesMedia result (top_part_at file.now seen.now (found at.now)) }
+    ensures fits { IfOk result (Fits seen.now) }
+{
+    let refused = |kind| MediaFault::Refused {
+        place: at.place,
+        kind,
+    };
+    match (top_box(at.kind), &seen.movie) {
+        (TopBox::Moov, None) => Ok(TopPart::Movie(read_movie(alloc, file, at)?)),
+        (TopBox::Moov, Some(_)) => Err(refused(MediaKind::SecondMoov)),
+        (TopBox::Moof, None) => Err(refused(MediaKind::NoMoov)),
+        (TopBox::Moof, Some(movie)) => {
+            let fragment = read_fragment(alloc, file, movie, seen.room, at)?;
+            Ok(TopPart::Fragment(fragment))
+        }
+        (TopBox::Other, _) => Ok(TopPart::Other),
+    }
+}
