@@ -1,4 +1,5 @@
-//! The player: `bittorgas play <script> <media> <prefix> [--workers <n>]` and `bittorgas request <type> <hex>`.
+//! The player: `bittorgas play <script> <media> <prefix> [--workers <n>]`, `bittorgas inspect <media>`, `bittorgas request <type> <hex>` and
+//! `bittorgas demo <n>`.
 #![tactic(auto)]
 
 use eme_edge::HostShelf;

@@ -8,13 +8,15 @@ use Rattle.eme_types.specs.declared.entry.Entry.{Entry}
 use Rattle.eme_types.specs.declared.entry.Entry.TheVariants.{Call, Job, Task, Tick, Feed, Claim, Deliver, GiveUp, Publish, PassClear, WaitForKey, Settle}
 use Rattle.eme_types.specs.declared.entry.Verdict.TheVariants.{Taken, Stale}
 use Rattle.eme_types.specs.declared.kid.KeyBytes.{KeyBytes}
-use Rattle.cdm_state.specs.declared.slot.Slot.{Slot}
-use Rattle.cdm_state.specs.Machine.{SessionState, Machine, session_at}
-use Rattle.cdm_state.specs.Keys.{held_key, key_of, usable_key, or_else, pick_from, pick}
-use Rattle.cdm_state.specs.World.{World}
-use Rattle.cdm_state.specs.Slots.{entry_of, give_clear, has_place}
-use Rattle.cdm_state.specs.In.{In}
-use Rattle.cdm_state.specs.Claims.{ClaimsKept, ClearKept, Once}
+use Rattle.key_claims.specs.TracksState.{ClaimState}
+use Rattle.key_sessions.specs.Machine.{SessionState, Machine, session_at}
+use Rattle.key_sessions.specs.Keys.{held_key, key_of, usable_key, or_else, pick_from, pick}
+use Rattle.key_sessions.specs.World.{World}
+use Rattle.cdm_state.specs.Slots.{entry_of}
+use Rattle.key_claims.specs.Claims.{give_clear, has_place}
+use Rattle.key_statuses.specs.In.{In}
+use Rattle.cdm_state.specs.Claims.{ClaimsKept, ClearKept}
+use Rattle.key_claims.specs.Kept.{Once}
 use Rattle.cdm_state.specs.History.{world, IsAt, IsLegal, Allowed, Ends, Spends, HoldsFor, Live, LiveAs}
 use Rattle.cdm_state.proofs.Places.{either_place, slice_get_last, In-left, In-last}
 use Rattle.cdm_state.proofs.Histories.{world_more}
@@ -84,22 +86,22 @@ none_names_next ids h n e legal at names =
 last_place : (h : List Entry) (e x : Entry) (c : ℕ) → IsAt (h ++ e ∷ []) c x → (IsAt h c x) ⊎ ((x ≡ e) × (c ≡ length h + 1))
 last_place h e x c at = elim (either_place h e (c - 1) x at.1) [ inl p ↦ inl (at.0, p.0) | inr p ↦ inr (p.0, omega (arith, at.0, p.2)) ]
 
-entry_ends : (s : Slot) (p : ℕ) → Ends (entry_of s) p ⊎ Spends (entry_of s) p → ⊥
+entry_ends : (s : ClaimState) (p : ℕ) → Ends (entry_of s) p ⊎ Spends (entry_of s) p → ⊥
 entry_ends s p (inl x) = x
 entry_ends s p (inr x) = x
 
-pub In-either : (xs : List Slot) (s t : Slot) → In (xs ++ s ∷ []) t → In xs t ⊎ (s ≡ t)
+pub In-either : (xs : List ClaimState) (s t : ClaimState) → In (xs ++ s ∷ []) t → In xs t ⊎ (s ≡ t)
 In-either [] s t (inl e) = inr e
 In-either [] s t (inr x) = absurd x
 In-either (y ∷ ys) s t (inl e) = inl (inl e)
 In-either (y ∷ ys) s t (inr x) = elim (In-either ys s t x) [ inl b ↦ inl (inr b) | inr e ↦ inr e ]
 
-once_new : (xs : List Slot) (s : Slot) → ((t : Slot) → In xs t → t.place ≡ s.place → ⊥) → Once xs → Once (xs ++ s ∷ [])
+once_new : (xs : List ClaimState) (s : ClaimState) → ((t : ClaimState) → In xs t → t.place ≡ s.place → ⊥) → Once xs → Once (xs ++ s ∷ [])
 once_new [] s new once = ((λ t there. absurd there), tt)
-once_new (x ∷ xs) s new once = ((λ t there same. elim (In-either xs s t there) [ inl b ↦ once.0 t b same | inr e ↦ new x (inl refl) (same ∙ ap (λ (u : Slot). u.place) (sym e)) ]), once_new xs s (λ t there. new t (inr there)) once.1)
+once_new (x ∷ xs) s new once = ((λ t there same. elim (In-either xs s t there) [ inl b ↦ once.0 t b same | inr e ↦ new x (inl refl) (same ∙ ap (λ (u : ClaimState). u.place) (sym e)) ]), once_new xs s (λ t there. new t (inr there)) once.1)
 
 -- a new claim is live, beside those that were
-pub claims_new : (ids : List ℕ) (h : List Entry) (claims : List Slot) (s : Slot) → IsLegal ids h → s.place ≡ length h + 1 → s.clear ≡ None → held_key (world ids h).machine s.session s.kid ≡ Some s.key → ClaimsKept ids h claims → ClaimsKept ids (h ++ entry_of s ∷ []) (claims ++ s ∷ [])
+pub claims_new : (ids : List ℕ) (h : List Entry) (claims : List ClaimState) (s : ClaimState) → IsLegal ids h → s.place ≡ length h + 1 → s.clear ≡ None → held_key (world ids h).machine s.session s.kid ≡ Some s.key → ClaimsKept ids h claims → ClaimsKept ids (h ++ entry_of s ∷ []) (claims ++ s ∷ [])
 claims_new ids h claims s legal here waits holds kept =
     let e = entry_of s in
     let same : (world ids (h ++ e ∷ [])).machine ≡ (world ids h).machine = ap (λ (w : World). w.machine) (world_more ids h e) in
@@ -116,62 +118,62 @@ claims_new ids h claims s legal here waits holds kept =
       held = λ n from to. (let all : length (h ++ e ∷ []) ≤ n = omega (arith, from, here, length-append h (e ∷ [])) in subst (λ (g : List Entry). HoldsFor (world ids g) e s.key) (sym (take_all n (h ++ e ∷ []) all)) now);
       unended = λ n x there ends. fresh n x there (inl ends);
     } in
-    let old : (t : Slot) → In claims t → LiveAs ids (h ++ e ∷ []) t.place (entry_of t) t.key = λ t there. live_more ids h e t.place (entry_of t) t.key (kept.live t there) (same_held (world ids h).machine (world ids (h ++ e ∷ [])).machine t.session t.kid keys ∙ live_now ids h t.place (entry_of t) t.key (kept.live t there)) (λ x. x) in
+    let old : (t : ClaimState) → In claims t → LiveAs ids (h ++ e ∷ []) t.place (entry_of t) t.key = λ t there. live_more ids h e t.place (entry_of t) t.key (kept.live t there) (same_held (world ids h).machine (world ids (h ++ e ∷ [])).machine t.session t.kid keys ∙ live_now ids h t.place (entry_of t) t.key (kept.live t there)) (λ x. x) in
     record {
-      live = λ t there. elim (In-either claims s t there) [ inl b ↦ old t b | inr same ↦ subst (λ (u : Slot). LiveAs ids (h ++ e ∷ []) u.place (entry_of u) u.key) same live ];
+      live = λ t there. elim (In-either claims s t there) [ inl b ↦ old t b | inr same ↦ subst (λ (u : ClaimState). LiveAs ids (h ++ e ∷ []) u.place (entry_of u) u.key) same live ];
       all = λ c l. elim (last_place h e l.0 c l.2.at) [
         | inl p ↦ (let found = kept.all c (l.0, l.1, live_less ids h e c l.0 l.1 l.2 (at_within h c l.0 p)) in (found.0, In-left claims (s ∷ []) found.0 found.1, found.2))
         | inr p ↦ (s, In-last claims s, here ∙ sym p.1)
       ];
       clear = λ t there. elim (In-either claims s t there) [
         | inl b ↦ clear_more h e t.place t.clear (λ x. x) (kept.clear t b)
-        | inr same ↦ subst (λ (u : Slot). ClearKept (h ++ e ∷ []) u.place u.clear) same (rw waits (record { worker = s.worker; track = s.track; index = s.index; session = s.session; kid = s.kid; at = at; none = λ n x there d. fresh n x there (inr d) }))
+        | inr same ↦ subst (λ (u : ClaimState). ClearKept (h ++ e ∷ []) u.place u.clear) same (rw waits (record { worker = s.worker; track = s.track; index = s.index; session = s.session; kid = s.kid; at = at; none = λ n x there d. fresh n x there (inr d) }))
       ];
       once = once_new claims s (λ t there same. (let before = at_within h t.place (entry_of t) (kept.live t there).at in omega (arith, before, here, same))) kept.once;
     }
 
 -- what a claim is, but for its clear bytes
-pub record SameClaim (s t : Slot) : Type 0 where
+pub record SameClaim (s t : ClaimState) : Type 0 where
   pub place : s.place ≡ t.place
   pub entry : entry_of s ≡ entry_of t
   pub key : s.key ≡ t.key
 
-same_claim : (s : Slot) → SameClaim s s
+same_claim : (s : ClaimState) → SameClaim s s
 same_claim s = record { place = refl; entry = refl; key = refl }
 
 -- where a claim of the list with the clear bytes comes from
-pub record GivenFrom (place : ℕ) (clear : List ℕ) (claims : List Slot) (s : Slot) : Type 0 where
-  pub old : Slot
+pub record GivenFrom (place : ℕ) (clear : List ℕ) (claims : List ClaimState) (s : ClaimState) : Type 0 where
+  pub old : ClaimState
   pub there : In claims old
   pub same : SameClaim s old
   pub which : ((s ≡ old) × (place ≡ old.place → ⊥)) ⊎ ((old.place ≡ place) × (s.clear ≡ Some clear))
 
-pub given_from : (place : ℕ) (clear : List ℕ) (claims : List Slot) (s : Slot) → Once claims → In (give_clear place clear claims) s → GivenFrom place clear claims s
+pub given_from : (place : ℕ) (clear : List ℕ) (claims : List ClaimState) (s : ClaimState) → Once claims → In (give_clear place clear claims) s → GivenFrom place clear claims s
 given_from place clear [] s once there = absurd there
 given_from place clear (x ∷ xs) s once there = elim (eqb_tells x.place place) [
   | inl p ↦ first p.1 (rw p.0 at there)
   | inr p ↦ later p.1 (rw p.0 at there) (λ m. given_from place clear xs s once.1 m)
 ] where
   first : x.place ≡ place → In (record x { clear = Some clear } ∷ xs) s → GivenFrom place clear (x ∷ xs) s
-  first at (inl e) = record { old = x; there = inl refl; same = subst (λ (t : Slot). SameClaim t x) e (record { place = refl; entry = refl; key = refl }); which = inr (at, ap (λ (t : Slot). t.clear) (sym e)) }
+  first at (inl e) = record { old = x; there = inl refl; same = subst (λ (t : ClaimState). SameClaim t x) e (record { place = refl; entry = refl; key = refl }); which = inr (at, ap (λ (t : ClaimState). t.clear) (sym e)) }
   first at (inr m) = record { old = s; there = inr m; same = same_claim s; which = inl (refl, λ same. once.0 s m (at ∙ same)) }
 
   later : (x.place ≡ place → ⊥) → In (x ∷ give_clear place clear xs) s → (In (give_clear place clear xs) s → GivenFrom place clear xs s) → GivenFrom place clear (x ∷ xs) s
-  later ne (inl e) rest = record { old = x; there = inl refl; same = subst (λ (t : Slot). SameClaim t x) e (same_claim x); which = inl (sym e, λ same. ne (sym same)) }
+  later ne (inl e) rest = record { old = x; there = inl refl; same = subst (λ (t : ClaimState). SameClaim t x) e (same_claim x); which = inl (sym e, λ same. ne (sym same)) }
   later ne (inr m) rest = (let g = rest m in record { old = g.old; there = inr g.there; same = g.same; which = g.which })
 
-given_to : (place : ℕ) (clear : List ℕ) (claims : List Slot) (t : Slot) → In claims t → (s : Slot) × In (give_clear place clear claims) s × (s.place ≡ t.place)
+given_to : (place : ℕ) (clear : List ℕ) (claims : List ClaimState) (t : ClaimState) → In claims t → (s : ClaimState) × In (give_clear place clear claims) s × (s.place ≡ t.place)
 given_to place clear [] t there = absurd there
 given_to place clear (x ∷ xs) t (inl e) = elim (eqb_tells x.place place) [
-  | inl p ↦ rw p.0 (record x { clear = Some clear }, inl refl, ap (λ (u : Slot). u.place) e)
-  | inr p ↦ rw p.0 (x, inl refl, ap (λ (u : Slot). u.place) e)
+  | inl p ↦ rw p.0 (record x { clear = Some clear }, inl refl, ap (λ (u : ClaimState). u.place) e)
+  | inr p ↦ rw p.0 (x, inl refl, ap (λ (u : ClaimState). u.place) e)
 ]
 given_to place clear (x ∷ xs) t (inr m) = elim (eqb_tells x.place place) [
   | inl p ↦ rw p.0 (t, inr m, refl)
   | inr p ↦ (let g = given_to place clear xs t m in rw p.0 (g.0, inr g.1, g.2))
 ]
 
-given_once : (place : ℕ) (clear : List ℕ) (claims : List Slot) → Once claims → Once (give_clear place clear claims)
+given_once : (place : ℕ) (clear : List ℕ) (claims : List ClaimState) → Once claims → Once (give_clear place clear claims)
 given_once place clear [] once = tt
 given_once place clear (x ∷ xs) once = elim (eqb_tells x.place place) [
   | inl p ↦ rw p.0 ((λ t there same. once.0 t there same), once.1)
@@ -179,35 +181,35 @@ given_once place clear (x ∷ xs) once = elim (eqb_tells x.place place) [
 ]
 
 -- after a delivery that was taken
-pub claims_taken : (ids : List ℕ) (h : List Entry) (place : ℕ) (clear : List ℕ) (claims : List Slot) → ClaimsKept ids h claims → ClaimsKept ids (h ++ Deliver place Taken ∷ []) (give_clear place clear claims)
+pub claims_taken : (ids : List ℕ) (h : List Entry) (place : ℕ) (clear : List ℕ) (claims : List ClaimState) → ClaimsKept ids h claims → ClaimsKept ids (h ++ Deliver place Taken ∷ []) (give_clear place clear claims)
 claims_taken ids h place clear claims kept =
     let e = Deliver place Taken in
     let same : (world ids (h ++ e ∷ [])).machine ≡ (world ids h).machine = ap (λ (w : World). w.machine) (world_more ids h e) in
     let keys : SameKeys (world ids h).machine (world ids (h ++ e ∷ [])).machine = record { sessions = ap (λ (m : Machine). m.sessions) same; moment = ap (λ (m : Machine). m.moment) same } in
-    let old : (t : Slot) → In claims t → LiveAs ids (h ++ e ∷ []) t.place (entry_of t) t.key = λ t there. live_more ids h e t.place (entry_of t) t.key (kept.live t there) (same_held (world ids h).machine (world ids (h ++ e ∷ [])).machine t.session t.kid keys ∙ live_now ids h t.place (entry_of t) t.key (kept.live t there)) (λ x. x) in
+    let old : (t : ClaimState) → In claims t → LiveAs ids (h ++ e ∷ []) t.place (entry_of t) t.key = λ t there. live_more ids h e t.place (entry_of t) t.key (kept.live t there) (same_held (world ids h).machine (world ids (h ++ e ∷ [])).machine t.session t.kid keys ∙ live_now ids h t.place (entry_of t) t.key (kept.live t there)) (λ x. x) in
     record {
       live = λ s there. (let g = given_from place clear claims s kept.once there in moved s g.old g.same (old g.old g.there));
       all = λ c l. (let found = kept.all c (live_before ids h e c (λ w t i n k x. cc) l) in let g = given_to place clear claims found.0 found.1 in (g.0, g.1, g.2 ∙ found.2));
       clear = λ s there. (let g = given_from place clear claims s kept.once there in elim g.which [
-        | inl w ↦ subst (λ (u : Slot). ClearKept (h ++ e ∷ []) u.place u.clear) (sym w.0) (clear_more h e g.old.place g.old.clear w.1 (kept.clear g.old g.there))
+        | inl w ↦ subst (λ (u : ClaimState). ClearKept (h ++ e ∷ []) u.place u.clear) (sym w.0) (clear_more h e g.old.place g.old.clear w.1 (kept.clear g.old g.there))
         | inr w ↦ rw (w.1, g.same.place, w.0) (Contains-append_right h (e ∷ []) e (0, omega arith, refl))
       ]);
       once = given_once place clear claims kept.once;
     }
   where
-    moved : (s t : Slot) → SameClaim s t → LiveAs ids (h ++ Deliver place Taken ∷ []) t.place (entry_of t) t.key → LiveAs ids (h ++ Deliver place Taken ∷ []) s.place (entry_of s) s.key
+    moved : (s t : ClaimState) → SameClaim s t → LiveAs ids (h ++ Deliver place Taken ∷ []) t.place (entry_of t) t.key → LiveAs ids (h ++ Deliver place Taken ∷ []) s.place (entry_of s) s.key
     moved s t same live = rw (same.place, same.entry, same.key) live
 
-no_place : (place : ℕ) (claims : List Slot) (s : Slot) → has_place place claims ≡ false → In claims s → s.place ≡ place → ⊥
+no_place : (place : ℕ) (claims : List ClaimState) (s : ClaimState) → has_place place claims ≡ false → In claims s → s.place ≡ place → ⊥
 no_place place [] s e there at = there
-no_place place (x ∷ xs) s e (inl same) at = (let here : x.place ≡ place = ap (λ (t : Slot). t.place) same ∙ at in elim (eqb_tells x.place place) [ inl p ↦ (let z = rw p.0 at e in absurd cc) | inr p ↦ p.1 here ])
+no_place place (x ∷ xs) s e (inl same) at = (let here : x.place ≡ place = ap (λ (t : ClaimState). t.place) same ∙ at in elim (eqb_tells x.place place) [ inl p ↦ (let z = rw p.0 at e in absurd cc) | inr p ↦ p.1 here ])
 no_place place (x ∷ xs) s e (inr m) at = elim (eqb_tells x.place place) [ inl p ↦ (let z = rw p.0 at e in absurd cc) | inr p ↦ no_place place xs s (rw p.0 at e) m at ]
 
 -- a claim that is not kept is not live
-pub not_live : (ids : List ℕ) (h : List Entry) (place : ℕ) (claims : List Slot) → ClaimsKept ids h claims → has_place place claims ≡ false → Live ids h place → ⊥
+pub not_live : (ids : List ℕ) (h : List Entry) (place : ℕ) (claims : List ClaimState) → ClaimsKept ids h claims → has_place place claims ≡ false → Live ids h place → ⊥
 not_live ids h place claims kept none live = (let found = kept.all place live in no_place place claims found.0 none found.1 found.2)
 
-some_place : (place : ℕ) (claims : List Slot) → has_place place claims ≡ true → (s : Slot) × In claims s × (s.place ≡ place)
+some_place : (place : ℕ) (claims : List ClaimState) → has_place place claims ≡ true → (s : ClaimState) × In claims s × (s.place ≡ place)
 some_place place [] e = absurd cc
 some_place place (x ∷ xs) e = elim (eqb_tells x.place place) [
   | inl p ↦ (x, inl refl, p.1)
@@ -215,11 +217,11 @@ some_place place (x ∷ xs) e = elim (eqb_tells x.place place) [
 ]
 
 -- a claim that is kept is live
-pub is_live : (ids : List ℕ) (h : List Entry) (place : ℕ) (claims : List Slot) → ClaimsKept ids h claims → has_place place claims ≡ true → Live ids h place
+pub is_live : (ids : List ℕ) (h : List Entry) (place : ℕ) (claims : List ClaimState) → ClaimsKept ids h claims → has_place place claims ≡ true → Live ids h place
 is_live ids h place claims kept some = (let found = some_place place claims some in subst (λ (p : ℕ). Live ids h p) found.2 (entry_of found.0, found.0.key, kept.live found.0 found.1))
 
 -- after a delivery that came too late
-pub claims_stale : (ids : List ℕ) (h : List Entry) (place : ℕ) (claims : List Slot) → has_place place claims ≡ false → ClaimsKept ids h claims → ClaimsKept ids (h ++ Deliver place Stale ∷ []) claims
+pub claims_stale : (ids : List ℕ) (h : List Entry) (place : ℕ) (claims : List ClaimState) → has_place place claims ≡ false → ClaimsKept ids h claims → ClaimsKept ids (h ++ Deliver place Stale ∷ []) claims
 claims_stale ids h place claims none kept =
     let e = Deliver place Stale in
     let same : (world ids (h ++ e ∷ [])).machine ≡ (world ids h).machine = ap (λ (w : World). w.machine) (world_more ids h e) in

@@ -1,45 +1,47 @@
 -- What was fed stays, and is well formed.
-use Rattle.std.proofs.Common.{zero, suc, ◌≡◌, ℕ, ◌+◌, ◌-◌, ◌<◌, ◌≤◌, Bool, true, false, IsTrue, ◌&&◌, List, [], ◌∷◌, ◌++◌, length, get_or, Option, Some, None, inl, inr, refl, ap, sym, subst, ◌∙◌, arith, map, take, drop, true≢false, take-append-drop, length-append}
+use Rattle.std.proofs.Common.{zero, suc, ◌≡◌, ℕ, ◌+◌, ◌-◌, ◌<◌, ◌≤◌, Bool, true, false, IsTrue, ◌&&◌, List, [], ◌∷◌, ◌++◌, length, get_or, Option, Some, None, inl, inr, refl, ap, sym, subst, ◌∙◌, arith, map, take, drop, take-append-drop, length-append}
 use Rattle.std.specs.Prelude.{if◌then◌else◌, slice_get, is_some, Contains, ◌==◌}
 use Rattle.std.specs.List.{fold, list_all}
 use Rattle.std.proofs.lemmas.List.{take_all}
 use Rattle.std.proofs.lemmas.List.Sums.{fold-append}
 use Rattle.std.proofs.lemmas.List.Folds.{list_all-append}
 use Rattle.std.proofs.lemmas.Option.{slice_get-get_or, slice_get_within}
-use Rattle.std.proofs.lemmas.Bool.Decides.{eqb_tells}
+use Rattle.std.proofs.lemmas.Bool.Decides.{eqb_tells, leb_tells}
+use Rattle.std.proofs.Math.Nat.{eq-or-lt_of_le}
 use Rattle.eme_types.specs.WellFormed.{is_well_formed}
 use Rattle.eme_types.specs.declared.sample.EncSample.{EncSample}
+use Rattle.eme_types.specs.declared.sample.Protect.{Protect}
 use Rattle.eme_types.specs.declared.media.TrackPart.{TrackPart}
 use Rattle.eme_types.specs.declared.media.Fragment.{Fragment}
 use Rattle.eme_types.specs.declared.call.Effect.{Effect}
 use Rattle.eme_types.specs.declared.entry.Entry.{Entry}
 use Rattle.eme_types.specs.declared.entry.Entry.TheVariants.{Call, Job, Task, Tick, Feed, Claim, Deliver, GiveUp, Publish, PassClear, WaitForKey, Settle}
 use Rattle.eme_types.specs.declared.entry.Verdict.TheVariants.{Taken}
-use Rattle.cdm_state.specs.declared.claim.Claim.{Claim as Held}
-use Rattle.cdm_state.specs.declared.track.Track.{Track}
-use Rattle.cdm_state.specs.declared.slot.Slot.{Slot}
-use Rattle.cdm_state.specs.Machine.{Machine}
-use Rattle.cdm_state.specs.Keys.{pick, held_key}
-use Rattle.cdm_state.specs.Tracks.{Picks, TrackState, empty_track, head, has_pick, find_track, change_track, feed_part, feed_parts, add_samples, one_more, set_waiting, resumed}
-use Rattle.cdm_state.specs.TrackOf.{track_of}
-use Rattle.cdm_state.specs.World.{World, empty_world, after_entry, feed_step, resumes}
+use Rattle.key_claims.specs.declared.claim.Claim.{Claim as Held}
+use Rattle.key_claims.specs.TracksState.{FedTrack, ClaimState, track_of}
+use Rattle.key_sessions.specs.Machine.{Machine}
+use Rattle.key_sessions.specs.Keys.{pick, held_key}
+use Rattle.key_statuses.specs.Tracks.{Picks, TrackState, empty_track, head, has_pick, find_track, change_track, feed_part, feed_parts, add_samples, one_more, set_waiting, resumed}
+use Rattle.key_sessions.specs.World.{World, empty_world, resumes}
+use Rattle.cdm_state.specs.After.{after_entry, feed_step}
 use Rattle.cdm_state.specs.Output.{fed_at, fed_sample}
-use Rattle.cdm_state.specs.In.{In}
 use Rattle.cdm_state.specs.Contract.{IsOpen}
-use Rattle.cdm_state.specs.Claims.{ClearKept, LegalKept}
+use Rattle.cdm_state.specs.Claims.{HasKid, ClearKept, LegalKept}
 use Rattle.cdm_state.specs.Kept.{world_of}
-use Rattle.cdm_state.specs.Choice.{is_ready, IsReadyOn, NoReadyOn, NoneReady, IsWork, IsCopied}
-use Rattle.cdm_state.specs.declared.choice.Work.{Work}
-use Rattle.cdm_state.specs.declared.choice.Copied.{Copied}
+use Rattle.key_claims.specs.Claims.{is_ready}
+use Rattle.key_claims.specs.Choice.{ready_on, IsReady, NoneReady, IsWork}
+use Rattle.cdm_state.proofs.Copied.{IsCopied, Copied}
+use Rattle.key_claims.specs.declared.choice.Work.{Work}
 use Rattle.eme_types.specs.Fed.{are_distinct}
 use Rattle.cdm_state.specs.History.{world, IsLegal, Allowed, IsAt, Spends, MayPublish}
 use Rattle.cdm_state.proofs.Places.{either_place, slice_get_last}
 use Rattle.cdm_state.proofs.Histories.{world_more, legal_induction}
 use Rattle.cdm_state.proofs.Claiming.{none_names_next, pick_holds}
-use Rattle.cdm_state.proofs.TrackSteps.{same_yes}
+use Rattle.cdm_state.proofs.TrackLists.{same_yes}
 use Rattle.cdm_state.proofs.TrackLists.{no_track}
 use Rattle.cdm_state.proofs.May.{live_slot, known_at, claim_picked}
 use Rattle.cdm_state.proofs.Exact.{found_in}
+use Rattle.key_claims.proofs.Readiness.{ready_some}
 
 get_left : {A : Type 0} (xs ys : List A) (i : ℕ) (x : A) → slice_get xs i ≡ Some x → slice_get (xs ++ ys) i ≡ Some x
 get_left [] ys i x at = absurd cc
@@ -109,48 +111,47 @@ clear_is_some : (h : List Entry) (place : ℕ) (o : Option (List ℕ)) → Clear
 clear_is_some h place None u there = absurd (u.none there.0 (Deliver place Taken) (slice_get-get_or h there.0 (Deliver place Taken) there.1 ∙ ap (λ (e : Entry). Some e) there.2) refl)
 clear_is_some h place (Some b) u there = refl
 
-record Indexed (claims : List Slot) (s : Slot) : Type 0 where
-  index : ℕ
-  within : index < length claims
-  is : (d : Slot) → get_or claims index d ≡ s
-
-In_index : (claims : List Slot) (s : Slot) → In claims s → Indexed claims s
-In_index [] s there = absurd there
-In_index (x ∷ xs) s (inl e) = record { index = 0; within = omega arith; is = λ d. e }
-In_index (x ∷ xs) s (inr m) = (let r = In_index xs s m in record { index = suc r.index; within = omega (arith, r.within); is = r.is })
-
 -- a track that may publish is ready
-pub publish_on : (ids : List ℕ) (h : List Entry) (did : List (List Effect)) (m : Machine) (ts : List Track) (claims : List Slot) (t : Track) (track index place : ℕ) → LegalKept ids h did (world_of m ts) claims → (may : MayPublish ids h track index place) → track_of t ≡ may.state → t.id ≡ track → (j : ℕ) × IsReadyOn claims t j
+pub publish_on : (ids : List ℕ) (h : List Entry) (did : List (List Effect)) (m : Machine) (ts : List FedTrack) (claims : List ClaimState) (t : FedTrack) (track index place : ℕ) → LegalKept ids h did (world_of m ts) claims → (may : MayPublish ids h track index place) → track_of t ≡ may.state → t.id ≡ track → (p : ℕ) × (ready_on claims t ≡ Some p)
 publish_on ids h did m ts claims t track index place kept may is id =
-    let out : length t.outputs.0 ≡ may.state.published = ap (λ (s : TrackState). s.published) is in
+    let out : length t.outputs ≡ may.state.published = ap (λ (s : TrackState). s.published) is in
     let s = live_slot ids h claims place track index kept.claims may.live in
     let fed = claimed_fed ids h s.slot.place s.slot.worker s.slot.track s.slot.index s.slot.session s.slot.kid kept.legal (kept.claims.live s.slot s.there).at in
     let sample : fed_sample (world ids h) track index ≡ Some fed.0 = subst (λ n. fed_sample (world ids h) track n ≡ Some fed.0) s.index_ (subst (λ n. fed_sample (world ids h) n s.slot.index ≡ Some fed.0) s.track_ fed.1) in
-    let here : slice_get t.fed.0 index ≡ Some fed.0 = ap (λ (x : TrackState). slice_get x.fed index) is ∙ (sym (ap (λ (o : Option TrackState). fed_at o index) may.known) ∙ sample) in
-    let within = slice_get_within t.fed.0 index fed.0 here in
-    let j = In_index claims s.slot s.there in
+    let here : slice_get t.fed index ≡ Some fed.0 = ap (λ (x : TrackState). slice_get x.fed index) is ∙ (sym (ap (λ (o : Option TrackState). fed_at o index) may.known) ∙ sample) in
+    let within = slice_get_within t.fed index fed.0 here in
     let clear : is_some s.slot.clear ≡ true = clear_is_some h s.slot.place s.slot.clear (kept.claims.clear s.slot s.there) (subst (λ n. Contains h (Deliver n Taken)) (sym s.place_) may.delivered) in
     let a = same_yes s.slot.track t.id (s.track_ ∙ sym id) in
-    let b = same_yes s.slot.index (length t.outputs.0) (s.index_ ∙ (may.next ∙ sym out)) in
-    let ready : is_ready t.id (length t.outputs.0) s.slot ≡ true = rw (a, b, clear) refl in (
-      j.index,
-      record {
-        fed = omega (arith, out, may.next, within);
-        slot = record { within = j.within; ready = λ d. ap (λ (x : Slot). is_ready t.id (length t.outputs.0) x) (j.is d) ∙ ready };
-      },
-    )
+    let b = same_yes s.slot.index (length t.outputs) (s.index_ ∙ (may.next ∙ sym out)) in
+    let ready : is_ready t.id (length t.outputs) s.slot ≡ true = rw (a, b, clear) refl in
+    ready_some claims t s.slot (omega (arith, out, may.next, within)) s.there ready
 
-pub not_ready_on : (claims : List Slot) (t : Track) (j : ℕ) (d : Slot) → IsReadyOn claims t j → NoReadyOn claims t → ⊥
-not_ready_on claims t j d ready none = true≢false (sym (ready.slot.ready d) ∙ none ready.fed j d ready.slot.within)
+pub some_none : (o : Option ℕ) (p : ℕ) → o ≡ Some p → o ≡ None → ⊥
+some_none o p some none = (let z : Some p ≡ None = sym some ∙ none in absurd cc)
+
+-- there is one first track that is ready
+pub same_ready : (claims : List ClaimState) (ts : List FedTrack) (a b p q : ℕ) → IsReady claims ts a p → IsReady claims ts b q → p ≡ q
+same_ready claims ts a b p q x y = elim (eqb_tells a b) [
+  | inl e ↦ number p q (sym (x.on no_track) ∙ (ap (λ (n : ℕ). ready_on claims (get_or ts n no_track)) e.1 ∙ y.on no_track))
+  | inr ne ↦ elim (leb_tells a b) [
+    | inl le ↦ (let lt : a < b = below a b le.1 ne.1 in absurd (some_none (ready_on claims (get_or ts a no_track)) p (x.on no_track) (y.first a no_track lt)))
+    | inr gt ↦ absurd (some_none (ready_on claims (get_or ts b no_track)) q (y.on no_track) (x.first b no_track gt.1))
+  ]
+] where
+  number : (p q : ℕ) → Some p ≡ Some q → p ≡ q
+  number p q e = cc
+
+  below : (a b : ℕ) → a ≤ b → (a ≡ b → ⊥) → a < b
+  below a b le ne = elim (eq-or-lt_of_le le) [ inl e ↦ absurd (ne e) | inr lt ↦ lt ]
 
 -- where no track is ready, no publication is allowed
-pub no_publish : (ids : List ℕ) (h : List Entry) (did : List (List Effect)) (m : Machine) (ts : List Track) (claims : List Slot) → LegalKept ids h did (world_of m ts) claims → NoneReady claims ts → (track index place : ℕ) → MayPublish ids h track index place → ⊥
+pub no_publish : (ids : List ℕ) (h : List Entry) (did : List (List Effect)) (m : Machine) (ts : List FedTrack) (claims : List ClaimState) → LegalKept ids h did (world_of m ts) claims → NoneReady claims ts → (track index place : ℕ) → MayPublish ids h track index place → ⊥
 no_publish ids h did m ts claims kept none track index place may =
     let f = found_in ids h did m ts claims track may.state kept may.known in
     let t = get_or ts f.place no_track in
     let is = f.is no_track in
     let r = publish_on ids h did m ts claims t track index place kept may is (ap (λ (s : TrackState). s.id) is ∙ f.same) in
-    not_ready_on claims t r.0 (live_slot ids h claims place track index kept.claims may.live).slot r.1 (none f.place no_track f.within)
+    some_none (ready_on claims t) r.0 r.1 (none f.place no_track f.within)
 
 -- samples that were fed are well formed
 
@@ -263,10 +264,15 @@ open_new ids h kid c legal place key sample =
       };
     }
 
-pub claim_open : (ids : List ℕ) (h : List Entry) (did : List (List Effect)) (m : Machine) (ts : List Track) (claims : List Slot) (w : Work) (c : Copied) (d : Track) (held : Held) → LegalKept ids h did (world_of m ts) claims → IsTrue (are_distinct ids) → IsWork (pick m) claims ts w → IsCopied (get_or ts w.at d) w.index c → held.place ≡ length h + 1 → held.track ≡ (get_or ts w.at d).id → held.index ≡ w.index → held.session ≡ w.session → held.key ≡ w.key → held.sample ≡ c.sample → IsOpen (record { tracks = ids; history = h ++ Claim held.worker held.track held.index held.session c.kid ∷ [] }) held
+pub claim_open : (ids : List ℕ) (h : List Entry) (did : List (List Effect)) (m : Machine) (ts : List FedTrack) (claims : List ClaimState) (w : Work) (c : Copied) (d : FedTrack) (held : Held) → LegalKept ids h did (world_of m ts) claims → IsTrue (are_distinct ids) → IsWork (pick m) claims ts w → IsCopied (get_or ts w.at d) w.index c → held.place ≡ length h + 1 → held.track ≡ (get_or ts w.at d).id → held.index ≡ w.index → held.session ≡ w.session → held.key ≡ w.key → held.sample ≡ c.sample → IsOpen (record { tracks = ids; history = h ++ Claim held.worker held.track held.index held.session c.kid ∷ [] }) held
 claim_open ids h did m ts claims w c d held kept distinct work copied place track index session key sample =
     let holds : held_key (world ids h).machine w.session c.kid ≡ Some w.key = subst (λ (v : World). held_key v.machine w.session c.kid ≡ Some w.key) kept.state (pick_holds m c.kid w.session w.key (claim_picked m ts claims w c d work copied)) in
     let fed : fed_sample (world ids h) (get_or ts w.at d).id w.index ≡ Some c.sample = ap (λ (o : Option TrackState). fed_at o w.index) (known_at ids h did m ts claims w.at d kept distinct work.within) ∙ copied.sample in
     let holds2 : held_key (world ids h).machine held.session c.kid ≡ Some held.key = rw (session, key) holds in
     let fed2 : fed_sample (world ids h) held.track held.index ≡ Some held.sample = rw (track, index, sample) fed in
     open_new ids h c.kid held kept.legal place holds2 fed2
+
+pub same_kid : (sample : EncSample) (p : Protect) (kid : List ℕ) → sample.protect ≡ Some p → HasKid sample kid → p.kid ≡ kid
+same_kid sample p kid is has = (let same : p ≡ has.protect = alone p has.protect (sym is ∙ has.protected) in ap (λ (q : Protect). q.kid) same ∙ sym has.same) where
+  alone : (a b : Protect) → Some a ≡ Some b → a ≡ b
+  alone a b e = cc

@@ -5,7 +5,8 @@ use Rattle.std.specs.List.{fold}
 use Rattle.std.proofs.lemmas.List.{append-nil}
 use Rattle.std.proofs.lemmas.List.Sums.{fold-append}
 use Rattle.eme_types.specs.declared.entry.Entry.{Entry}
-use Rattle.cdm_state.specs.World.{World, empty_world, after_entry, effects_of}
+use Rattle.key_sessions.specs.World.{World, empty_world}
+use Rattle.cdm_state.specs.After.{after_entry, effects_of}
 use Rattle.cdm_state.specs.History.{world, IsLegal, Allowed}
 use Rattle.cdm_state.specs.Settlements.{effects_from, effects_in}
 use Rattle.cdm_state.proofs.Places.{either_place}

@@ -1,18 +1,11 @@
-pub mod Tables
-pub mod Reports
-pub mod Differ
-pub mod SessionLists
-pub mod Reported
-pub mod Planned
 pub mod TrackLists
-pub mod TrackSteps
+pub mod Copied
+pub mod Fired
+pub mod Revoking
 pub mod ShownOn
 pub mod TrackIds
-pub mod SlotLists
 pub mod Places
 pub mod Histories
-pub mod Owed
-pub mod OwedSteps
 pub mod Settling
 pub mod Live
 pub mod Claiming
@@ -27,3 +20,5 @@ pub mod OutOn
 pub mod Usable
 pub mod Resuming
 pub mod Progress
+pub mod Windows
+pub mod InHand

@@ -11,13 +11,15 @@ use Rattle.eme_types.specs.declared.entry.Entry.{Entry}
 use Rattle.eme_types.specs.declared.entry.Entry.TheVariants.{Call, Job, Task, Tick, Feed, Claim, Deliver, GiveUp, Publish, PassClear, WaitForKey, Settle}
 use Rattle.eme_types.specs.declared.entry.Verdict.TheVariants.{Taken}
 use Rattle.eme_types.specs.declared.kid.KeyBytes.{KeyBytes}
-use Rattle.cdm_state.specs.declared.slot.Slot.{Slot}
-use Rattle.cdm_state.specs.Machine.{Machine}
-use Rattle.cdm_state.specs.Keys.{held_key}
-use Rattle.cdm_state.specs.World.{World}
-use Rattle.cdm_state.specs.Slots.{entry_of, is_key, holds_still, is_other}
-use Rattle.cdm_state.specs.In.{In}
-use Rattle.cdm_state.specs.Claims.{ClaimsKept, ClearKept, Once}
+use Rattle.key_claims.specs.TracksState.{ClaimState}
+use Rattle.key_sessions.specs.Machine.{Machine}
+use Rattle.key_sessions.specs.Keys.{held_key}
+use Rattle.key_sessions.specs.World.{World}
+use Rattle.cdm_state.specs.Slots.{entry_of, is_key, holds_still}
+use Rattle.key_claims.specs.Claims.{is_other}
+use Rattle.key_statuses.specs.In.{In}
+use Rattle.cdm_state.specs.Claims.{ClaimsKept, ClearKept}
+use Rattle.key_claims.specs.Kept.{Once}
 use Rattle.cdm_state.specs.History.{world, IsAt, Ends, Spends, HoldsFor, Live, LiveAs, Undelivered}
 use Rattle.cdm_state.proofs.Places.{either_place, slice_get_left, slice_get_last, IsPlain}
 
@@ -100,7 +102,7 @@ live_before ids h e c plain live =
     ]
 
 -- a live claim at the place of a kept one holds its key
-still_holds : (ids : List ℕ) (h : List Entry) (e : Entry) (s : Slot) → LiveAs ids h s.place (entry_of s) s.key → Live ids (h ++ e ∷ []) s.place → held_key (world ids (h ++ e ∷ [])).machine s.session s.kid ≡ Some s.key
+still_holds : (ids : List ℕ) (h : List Entry) (e : Entry) (s : ClaimState) → LiveAs ids h s.place (entry_of s) s.key → Live ids (h ++ e ∷ []) s.place → held_key (world ids (h ++ e ∷ [])).machine s.session s.kid ≡ Some s.key
 still_holds ids h e s held live =
     let within = at_within h s.place (entry_of s) held.at in
     let before = live_less ids h e s.place live.0 live.1 live.2 within in
@@ -127,18 +129,18 @@ In-filtered p (y ∷ ys) x at = go (p y) refl at (λ m. In-filtered p ys x m) wh
   go false is m rest = (let r = rest m in (inr r.0, r.1))
 
 -- no place stands twice among some of them
-pub once_filter : (p : Slot → Bool) (xs : List Slot) → Once xs → Once (filter p xs)
+pub once_filter : (p : ClaimState → Bool) (xs : List ClaimState) → Once xs → Once (filter p xs)
 once_filter p [] once = tt
 once_filter p (x ∷ xs) once = go (p x) (once_filter p xs once.1) where
   go : (b : Bool) → Once (filter p xs) → Once (if b then x ∷ filter p xs else filter p xs)
   go true rest = ((λ t there. once.0 t (In-filtered p xs t there).0), rest)
   go false rest = rest
 
-key_is : (held : Option KeyBytes) (key : KeyBytes) → is_key held key ≡ true → held ≡ Some key
+pub key_is : (held : Option KeyBytes) (key : KeyBytes) → is_key held key ≡ true → held ≡ Some key
 key_is None key e = absurd cc
 key_is (Some k) key e = ap (λ (bs : List ℕ). let x : KeyBytes = record { bytes = bs } in Some x) ((bytes_eq-Decides k.bytes key.bytes).0 e)
 
-is_key_same : (held : Option KeyBytes) (key : KeyBytes) → held ≡ Some key → is_key held key ≡ true
+pub is_key_same : (held : Option KeyBytes) (key : KeyBytes) → held ≡ Some key → is_key held key ≡ true
 is_key_same held key e = rw e ((bytes_eq-Decides key.bytes key.bytes).1 refl)
 
 -- a claim that waits still waits after an entry that does not spend it
@@ -158,13 +160,13 @@ clear_more h e c None other u = open_more h e c other u
 clear_more h e c (Some b) other there = Contains-append_left h (e ∷ []) (Deliver c Taken) there
 
 -- an entry that makes and ends no claim, and delivers none of these
-pub record LeavesClaims (e : Entry) (claims : List Slot) : Type 0 where
+pub record LeavesClaims (e : Entry) (claims : List ClaimState) : Type 0 where
   pub plain : IsPlain e
   pub ends : (place : ℕ) → Ends e place → ⊥
-  pub spends : (s : Slot) → In claims s → Spends e s.place → ⊥
+  pub spends : (s : ClaimState) → In claims s → Spends e s.place → ⊥
 
 -- after such an entry just the claims stay whose session still holds their key
-pub claims_go_on : (ids : List ℕ) (h : List Entry) (e : Entry) (claims : List Slot) → LeavesClaims e claims → ClaimsKept ids h claims → ClaimsKept ids (h ++ e ∷ []) (filter (holds_still (world ids (h ++ e ∷ [])).machine) claims)
+pub claims_go_on : (ids : List ℕ) (h : List Entry) (e : Entry) (claims : List ClaimState) → LeavesClaims e claims → ClaimsKept ids h claims → ClaimsKept ids (h ++ e ∷ []) (filter (holds_still (world ids (h ++ e ∷ [])).machine) claims)
 claims_go_on ids h e claims leaves kept =
     let m = (world ids (h ++ e ∷ [])).machine in
     record {
@@ -177,7 +179,7 @@ claims_go_on ids h e claims leaves kept =
       once = once_filter (holds_still m) claims kept.once;
     }
 
-all_held : (m : Machine) (claims : List Slot) → ((s : Slot) → In claims s → held_key m s.session s.kid ≡ Some s.key) → filter (holds_still m) claims ≡ claims
+all_held : (m : Machine) (claims : List ClaimState) → ((s : ClaimState) → In claims s → held_key m s.session s.kid ≡ Some s.key) → filter (holds_still m) claims ≡ claims
 all_held m [] held = refl
 all_held m (s ∷ ss) held = (let here : holds_still m s ≡ true = is_key_same (held_key m s.session s.kid) s.key (held s (inl refl)) in rw here (ap (λ ys. s ∷ ys) (all_held m ss (λ t at. held t (inr at)))))
 
@@ -190,11 +192,11 @@ pub same_held : (m k : Machine) (session : ℕ) (kid : List ℕ) → SameKeys m 
 same_held m k session kid same = rw (same.sessions, same.moment) refl
 
 -- where the same keys are usable, all claims stay
-pub claims_stay : (ids : List ℕ) (h : List Entry) (e : Entry) (claims : List Slot) → LeavesClaims e claims → SameKeys (world ids h).machine (world ids (h ++ e ∷ [])).machine → ClaimsKept ids h claims → ClaimsKept ids (h ++ e ∷ []) claims
+pub claims_stay : (ids : List ℕ) (h : List Entry) (e : Entry) (claims : List ClaimState) → LeavesClaims e claims → SameKeys (world ids h).machine (world ids (h ++ e ∷ [])).machine → ClaimsKept ids h claims → ClaimsKept ids (h ++ e ∷ []) claims
 claims_stay ids h e claims leaves same kept =
     let m = (world ids (h ++ e ∷ [])).machine in
     let all : filter (holds_still m) claims ≡ claims = all_held m claims (λ s at. same_held (world ids h).machine m s.session s.kid same ∙ live_now ids h s.place (entry_of s) s.key (kept.live s at)) in
-    subst (λ (cs : List Slot). ClaimsKept ids (h ++ e ∷ []) cs) all (claims_go_on ids h e claims leaves kept)
+    subst (λ (cs : List ClaimState). ClaimsKept ids (h ++ e ∷ []) cs) all (claims_go_on ids h e claims leaves kept)
 
 -- an entry that ends just the claim at a place
 pub record EndsOne (e : Entry) (place : ℕ) : Type 0 where
@@ -203,13 +205,13 @@ pub record EndsOne (e : Entry) (place : ℕ) : Type 0 where
   pub ends : (p : ℕ) → Ends e p → place ≡ p
   pub spends : (p : ℕ) → Spends e p → place ≡ p
 
-is_other_true : (place : ℕ) (s : Slot) → is_other place s ≡ true → place ≡ s.place → ⊥
+is_other_true : (place : ℕ) (s : ClaimState) → is_other place s ≡ true → place ≡ s.place → ⊥
 is_other_true place s is same = elim (eqb_tells s.place place) [ inl p ↦ (let z : is_other place s ≡ false = ap not p.0 in absurd (cc)) | inr p ↦ p.1 (sym same) ]
 
-is_other_yes : (place : ℕ) (s : Slot) → (s.place ≡ place → ⊥) → is_other place s ≡ true
+is_other_yes : (place : ℕ) (s : ClaimState) → (s.place ≡ place → ⊥) → is_other place s ≡ true
 is_other_yes place s ne = elim (eqb_tells s.place place) [ inl p ↦ absurd (ne p.1) | inr p ↦ ap not p.0 ]
 
-pub claims_end : (ids : List ℕ) (h : List Entry) (e : Entry) (place : ℕ) (claims : List Slot) → EndsOne e place → SameKeys (world ids h).machine (world ids (h ++ e ∷ [])).machine → ClaimsKept ids h claims → ClaimsKept ids (h ++ e ∷ []) (filter (is_other place) claims)
+pub claims_end : (ids : List ℕ) (h : List Entry) (e : Entry) (place : ℕ) (claims : List ClaimState) → EndsOne e place → SameKeys (world ids h).machine (world ids (h ++ e ∷ [])).machine → ClaimsKept ids h claims → ClaimsKept ids (h ++ e ∷ []) (filter (is_other place) claims)
 claims_end ids h e place claims ends same kept =
     let m = (world ids (h ++ e ∷ [])).machine in
     record {

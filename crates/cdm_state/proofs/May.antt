@@ -11,25 +11,24 @@ use Rattle.eme_types.specs.declared.call.Effect.{Effect}
 use Rattle.eme_types.specs.declared.entry.Entry.{Entry}
 use Rattle.eme_types.specs.declared.entry.Entry.TheVariants.{Deliver}
 use Rattle.eme_types.specs.declared.entry.Verdict.TheVariants.{Taken}
-use Rattle.cdm_state.specs.declared.track.Track.{Track}
-use Rattle.cdm_state.specs.declared.slot.Slot.{Slot}
-use Rattle.cdm_state.specs.declared.choice.Work.{Work}
-use Rattle.cdm_state.specs.declared.choice.Ready.{Ready}
-use Rattle.cdm_state.specs.declared.choice.Copied.{Copied}
-use Rattle.cdm_state.specs.Machine.{Machine}
-use Rattle.cdm_state.specs.Keys.{pick}
-use Rattle.cdm_state.specs.Tracks.{Picks, TrackState, head, find_track, Unpicked, HeadAtRest, TrackAtRest}
-use Rattle.cdm_state.specs.TrackOf.{track_of, protect_of, protect_at, Stands}
-use Rattle.cdm_state.specs.World.{World}
-use Rattle.cdm_state.specs.Slots.{entry_of, claimed_in}
-use Rattle.cdm_state.specs.In.{In}
+use Rattle.key_claims.specs.TracksState.{FedTrack, ClaimState, track_of}
+use Rattle.key_claims.specs.declared.choice.Work.{Work}
+use Rattle.cdm_state.proofs.Copied.{Copied, IsCopied}
+use Rattle.key_sessions.specs.Machine.{Machine}
+use Rattle.key_sessions.specs.Keys.{pick}
+use Rattle.key_statuses.specs.Tracks.{Picks, TrackState, head, find_track, Unpicked, HeadAtRest, TrackAtRest}
+use Rattle.key_claims.specs.Choice.{protect_of, protect_at, free_pick, IsWork, IsFirst, IsReady, has_clear_head, is_clear, is_unkeyed, is_free_of, rests, rests_at, rests_protected, AllRest, IsUnrested}
+use Rattle.key_sessions.specs.World.{World}
+use Rattle.cdm_state.specs.Slots.{entry_of}
+use Rattle.key_claims.specs.Claims.{claimed_in}
+use Rattle.key_statuses.specs.In.{In}
 use Rattle.cdm_state.specs.Claims.{ClaimsKept, ClearKept, LegalKept}
 use Rattle.cdm_state.specs.Kept.{world_of}
-use Rattle.cdm_state.specs.Choice.{free_pick, IsWork, IsCopied, IsFirst, IsReady, has_clear_head, is_clear, is_unkeyed, is_free_of, rests, rests_at, rests_protected, AllRest, IsUnrested, is_ready}
 use Rattle.cdm_state.specs.Contract.{FirstBusy}
 use Rattle.cdm_state.specs.History.{world, IsOn, LiveOn, MayClaim, MayPublish, MayPassClear, MayWait, AtRest}
-use Rattle.cdm_state.proofs.TrackSteps.{same_yes}
+use Rattle.cdm_state.proofs.TrackLists.{same_yes}
 use Rattle.cdm_state.proofs.TrackLists.{no_track, unkeyed_awake}
+use Rattle.key_claims.proofs.Readiness.{ready_there, ready_claimed}
 use Rattle.cdm_state.proofs.TrackIds.{id_of, state_id, world_ids, states_ids, first_here, find_here, or_right}
 
 some_alone : {A : Type 0} (x y : A) → Some x ≡ Some y → x ≡ y
@@ -40,14 +39,14 @@ both_true true b e = (refl, e)
 both_true false b e = absurd cc
 
 -- the slot of a live claim on a sample
-pub record SlotOn (claims : List Slot) (place track index : ℕ) : Type 0 where
-  pub slot : Slot
+pub record SlotOn (claims : List ClaimState) (place track index : ℕ) : Type 0 where
+  pub slot : ClaimState
   pub there : In claims slot
   pub place_ : slot.place ≡ place
   pub track_ : slot.track ≡ track
   pub index_ : slot.index ≡ index
 
-pub live_slot : (ids : List ℕ) (h : List Entry) (claims : List Slot) (place track index : ℕ) → ClaimsKept ids h claims → LiveOn ids h place track index → SlotOn claims place track index
+pub live_slot : (ids : List ℕ) (h : List Entry) (claims : List ClaimState) (place track index : ℕ) → ClaimsKept ids h claims → LiveOn ids h place track index → SlotOn claims place track index
 live_slot ids h claims place track index kept on =
     let found = kept.all place (on.claim, on.key, on.live) in
     let at = (kept.live found.0 found.1).at in
@@ -56,18 +55,18 @@ live_slot ids h claims place track index kept on =
     let both = subst (λ (e : Entry). IsOn e track index) same on.on in
     record { slot = found.0; there = found.1; place_ = found.2; track_ = both.0; index_ = both.1 }
 
-pub slot_live : (ids : List ℕ) (h : List Entry) (claims : List Slot) (s : Slot) (track index : ℕ) → ClaimsKept ids h claims → In claims s → s.track ≡ track → s.index ≡ index → LiveOn ids h s.place track index
+pub slot_live : (ids : List ℕ) (h : List Entry) (claims : List ClaimState) (s : ClaimState) (track index : ℕ) → ClaimsKept ids h claims → In claims s → s.track ≡ track → s.index ≡ index → LiveOn ids h s.place track index
 slot_live ids h claims s track index kept there t i = record { claim = entry_of s; key = s.key; live = kept.live s there; on = (t, i) }
 
-claimed_yes : (claims : List Slot) (track index : ℕ) (s : Slot) → In claims s → s.track ≡ track → s.index ≡ index → claimed_in claims track index ≡ true
+claimed_yes : (claims : List ClaimState) (track index : ℕ) (s : ClaimState) → In claims s → s.track ≡ track → s.index ≡ index → claimed_in claims track index ≡ true
 claimed_yes [] track index s there t i = absurd there
 claimed_yes (x ∷ xs) track index s (inl e) t i =
-    let a = same_yes x.track track (ap (λ (y : Slot). y.track) e ∙ t) in
-    let b = same_yes x.index index (ap (λ (y : Slot). y.index) e ∙ i) in
+    let a = same_yes x.track track (ap (λ (y : ClaimState). y.track) e ∙ t) in
+    let b = same_yes x.index index (ap (λ (y : ClaimState). y.index) e ∙ i) in
     rw (a, b) refl
 claimed_yes (x ∷ xs) track index s (inr m) t i = rw (claimed_yes xs track index s m t i) (or_right _)
 
-claimed_some : (claims : List Slot) (track index : ℕ) → claimed_in claims track index ≡ true → (s : Slot) × In claims s × (s.track ≡ track) × (s.index ≡ index)
+claimed_some : (claims : List ClaimState) (track index : ℕ) → claimed_in claims track index ≡ true → (s : ClaimState) × In claims s × (s.track ≡ track) × (s.index ≡ index)
 claimed_some [] track index e = absurd cc
 claimed_some (x ∷ xs) track index e = elim (eqb_tells x.track track) [
   | inl p ↦ elim (eqb_tells x.index index) [
@@ -78,24 +77,24 @@ claimed_some (x ∷ xs) track index e = elim (eqb_tells x.track track) [
 ]
 
 -- a sample that no kept claim is on has no live claim
-pub free_of : (ids : List ℕ) (h : List Entry) (claims : List Slot) (track index : ℕ) → ClaimsKept ids h claims → claimed_in claims track index ≡ false → (place : ℕ) → LiveOn ids h place track index → ⊥
+pub free_of : (ids : List ℕ) (h : List Entry) (claims : List ClaimState) (track index : ℕ) → ClaimsKept ids h claims → claimed_in claims track index ≡ false → (place : ℕ) → LiveOn ids h place track index → ⊥
 free_of ids h claims track index kept none place on =
     let s = live_slot ids h claims place track index kept on in
     true≢false (sym (claimed_yes claims track index s.slot s.there s.track_ s.index_) ∙ none)
 
-pub not_claimed : (ids : List ℕ) (h : List Entry) (claims : List Slot) (track index : ℕ) → ClaimsKept ids h claims → ((place : ℕ) → LiveOn ids h place track index → ⊥) → claimed_in claims track index ≡ false
+pub not_claimed : (ids : List ℕ) (h : List Entry) (claims : List ClaimState) (track index : ℕ) → ClaimsKept ids h claims → ((place : ℕ) → LiveOn ids h place track index → ⊥) → claimed_in claims track index ≡ false
 not_claimed ids h claims track index kept free = go (claimed_in claims track index) refl where
   go : (b : Bool) → claimed_in claims track index ≡ b → claimed_in claims track index ≡ false
   go false e = e
   go true e = (let r = claimed_some claims track index e in absurd (free r.0.place (slot_live ids h claims r.0 track index kept r.1 r.2 r.3)))
 
 -- the track at a place is found by its id
-pub stands_at : (ids : List ℕ) (h : List Entry) (did : List (List Effect)) (m : Machine) (ts : List Track) (claims : List Slot) (i : ℕ) (d : Track) → LegalKept ids h did (world_of m ts) claims → IsTrue (are_distinct ids) → i < length ts → find_track (map track_of (take i ts)) (get_or ts i d).id ≡ None
+pub stands_at : (ids : List ℕ) (h : List Entry) (did : List (List Effect)) (m : Machine) (ts : List FedTrack) (claims : List ClaimState) (i : ℕ) (d : FedTrack) → LegalKept ids h did (world_of m ts) claims → IsTrue (are_distinct ids) → i < length ts → find_track (map track_of (take i ts)) (get_or ts i d).id ≡ None
 stands_at ids h did m ts claims i d kept distinct lt =
     let same : map id_of ts ≡ ids = sym (states_ids ts) ∙ (ap (λ (w : World). map state_id w.tracks) kept.state ∙ world_ids ids h) in
     first_here ts i (get_or ts i d).id d (ap are_distinct same ∙ distinct) lt refl
 
-pub known_at : (ids : List ℕ) (h : List Entry) (did : List (List Effect)) (m : Machine) (ts : List Track) (claims : List Slot) (i : ℕ) (d : Track) → LegalKept ids h did (world_of m ts) claims → IsTrue (are_distinct ids) → i < length ts → find_track (world ids h).tracks (get_or ts i d).id ≡ Some (track_of (get_or ts i d))
+pub known_at : (ids : List ℕ) (h : List Entry) (did : List (List Effect)) (m : Machine) (ts : List FedTrack) (claims : List ClaimState) (i : ℕ) (d : FedTrack) → LegalKept ids h did (world_of m ts) claims → IsTrue (are_distinct ids) → i < length ts → find_track (world ids h).tracks (get_or ts i d).id ≡ Some (track_of (get_or ts i d))
 known_at ids h did m ts claims i d kept distinct lt =
     subst (λ (w : World). find_track w.tracks (get_or ts i d).id ≡ Some (track_of (get_or ts i d))) kept.state (find_here ts i (get_or ts i d).id d lt (stands_at ids h did m ts claims i d kept distinct lt) refl)
 
@@ -104,12 +103,12 @@ picked_free picks true o p r is e = (let z = rw is at e in absurd cc)
 picked_free picks false o p r is e = (refl, rw is at e)
 
 -- a claim
-pub may_claim : (ids : List ℕ) (h : List Entry) (did : List (List Effect)) (m : Machine) (ts : List Track) (claims : List Slot) (w : Work) (c : Copied) (d : Track) → LegalKept ids h did (world_of m ts) claims → IsTrue (are_distinct ids) → IsWork (pick m) claims ts w → IsCopied (get_or ts w.at d) w.index c → MayClaim ids h (get_or ts w.at d).id w.index w.session c.kid
+pub may_claim : (ids : List ℕ) (h : List Entry) (did : List (List Effect)) (m : Machine) (ts : List FedTrack) (claims : List ClaimState) (w : Work) (c : Copied) (d : FedTrack) → LegalKept ids h did (world_of m ts) claims → IsTrue (are_distinct ids) → IsWork (pick m) claims ts w → IsCopied (get_or ts w.at d) w.index c → MayClaim ids h (get_or ts w.at d).id w.index w.session c.kid
 may_claim ids h did m ts claims w c d kept distinct work copied =
     let t = get_or ts w.at d in
     let on = work.on d in
-    let protect : protect_at t.fed.0 w.index ≡ Some copied.protect = ap protect_of copied.sample ∙ copied.protected in
-    let free = picked_free (pick m) (claimed_in claims t.id w.index) (protect_at t.fed.0 w.index) copied.protect (w.session, w.key) protect on.picked in
+    let protect : protect_at t.fed w.index ≡ Some copied.protect = ap protect_of copied.sample ∙ copied.protected in
+    let free = picked_free (pick m) (claimed_in claims t.id w.index) (protect_at t.fed w.index) copied.protect (w.session, w.key) protect on.picked in
     record {
       state = track_of t;
       known = known_at ids h did m ts claims w.at d kept distinct work.within;
@@ -130,35 +129,43 @@ clear_there : (h : List Entry) (place : ℕ) (o : Option (List ℕ)) → is_some
 clear_there h place None e kept = absurd cc
 clear_there h place (Some b) e kept = kept
 
-pub In_at : (claims : List Slot) (i : ℕ) (d : Slot) → i < length claims → In claims (get_or claims i d)
-In_at [] i d lt = absurd (omega arith)
-In_at (x ∷ xs) zero d lt = inl refl
-In_at (x ∷ xs) (suc i) d lt = inr (In_at xs i d (omega arith))
-
 same_number : (a b : ℕ) → (a == b) ≡ true → a ≡ b
 same_number a b e = elim (eqb_tells a b) [ inl p ↦ p.1 | inr p ↦ absurd (true≢false (sym e ∙ p.0)) ]
 
 -- a publication
-pub may_publish : (ids : List ℕ) (h : List Entry) (did : List (List Effect)) (m : Machine) (ts : List Track) (claims : List Slot) (r : Ready) (s : Slot) (d : Track) → LegalKept ids h did (world_of m ts) claims → IsTrue (are_distinct ids) → IsReady claims ts r → s ≡ get_or claims r.slot s → MayPublish ids h s.track s.index s.place × (s.track ≡ (get_or ts r.at d).id) × (s.index ≡ length (get_or ts r.at d).outputs.0)
-may_publish ids h did m ts claims r s d kept distinct ready here =
-    let t = get_or ts r.at d in
-    let on = ready.on d in
-    let is = subst (λ (x : Slot). is_ready t.id (length t.outputs.0) x ≡ true) (sym here) (on.slot.ready s) in
-    let a = both_true _ (is_some s.clear) is in
+pub record Published (ids : List ℕ) (h : List Entry) (claims : List ClaimState) (t : FedTrack) (place : ℕ) : Type 0 where
+  pub may : MayPublish ids h t.id (length t.outputs) place
+  pub claim : ClaimState
+  pub there : In claims claim
+  pub place_ : claim.place ≡ place
+  pub track_ : claim.track ≡ t.id
+  pub index_ : claim.index ≡ length t.outputs
+  pub clear_ : is_some claim.clear ≡ true
+
+pub may_publish : (ids : List ℕ) (h : List Entry) (did : List (List Effect)) (m : Machine) (ts : List FedTrack) (claims : List ClaimState) (at place : ℕ) (d : FedTrack) → LegalKept ids h did (world_of m ts) claims → IsTrue (are_distinct ids) → IsReady claims ts at place → Published ids h claims (get_or ts at d) place
+may_publish ids h did m ts claims at place d kept distinct ready =
+    let t = get_or ts at d in
+    let r = ready_there claims t.id (length t.outputs) place (ready_claimed claims t place (ready.on d)) in
+    let s = r.claim in
+    let a = both_true _ (is_some s.clear) r.ready in
     let b = both_true _ _ a.0 in
     let track : s.track ≡ t.id = same_number s.track t.id b.0 in
-    let index : s.index ≡ length t.outputs.0 = same_number s.index (length t.outputs.0) b.1 in
-    let there : In claims s = subst (λ (x : Slot). In claims x) (sym here) (In_at claims r.slot s on.slot.within) in (
-      record {
+    let index : s.index ≡ length t.outputs = same_number s.index (length t.outputs) b.1 in
+    record {
+      may = record {
         state = track_of t;
-        known = subst (λ (n : ℕ). find_track (world ids h).tracks n ≡ Some (track_of t)) (sym track) (known_at ids h did m ts claims r.at d kept distinct ready.within);
-        next = index;
-        live = slot_live ids h claims s s.track s.index kept.claims there refl refl;
-        delivered = clear_there h s.place s.clear a.1 (kept.claims.clear s there);
-      },
-      track,
-      index,
-    )
+        known = known_at ids h did m ts claims at d kept distinct ready.within;
+        next = refl;
+        live = subst (λ (p : ℕ). LiveOn ids h p t.id (length t.outputs)) r.place_ (slot_live ids h claims s t.id (length t.outputs) kept.claims r.there track index);
+        delivered = subst (λ (p : ℕ). Contains h (Deliver p Taken)) r.place_ (clear_there h s.place s.clear a.1 (kept.claims.clear s r.there));
+      };
+      claim = s;
+      there = r.there;
+      place_ = r.place_;
+      track_ = track;
+      index_ = index;
+      clear_ = a.1;
+    }
 
 clear_sample : (o : Option EncSample) → is_clear o ≡ true → (s : EncSample) × (o ≡ Some s) × (s.protect ≡ None)
 clear_sample None e = absurd cc
@@ -168,7 +175,7 @@ clear_sample (Some s) e = (s, refl, none s.protect e) where
   none (Some p) e = absurd cc
 
 -- a clear sample
-pub may_pass : (ids : List ℕ) (h : List Entry) (did : List (List Effect)) (m : Machine) (ts : List Track) (claims : List Slot) (at : ℕ) (d : Track) → LegalKept ids h did (world_of m ts) claims → IsTrue (are_distinct ids) → IsFirst has_clear_head ts at → MayPassClear ids h (get_or ts at d).id (length (get_or ts at d).outputs.0)
+pub may_pass : (ids : List ℕ) (h : List Entry) (did : List (List Effect)) (m : Machine) (ts : List FedTrack) (claims : List ClaimState) (at : ℕ) (d : FedTrack) → LegalKept ids h did (world_of m ts) claims → IsTrue (are_distinct ids) → IsFirst has_clear_head ts at → MayPassClear ids h (get_or ts at d).id (length (get_or ts at d).outputs)
 may_pass ids h did m ts claims at d kept distinct first =
     let t = get_or ts at d in
     let s = clear_sample (head (track_of t)) (first.on d) in
@@ -191,11 +198,11 @@ off true c is e = absurd cc
 off false c is e = e
 
 -- a track that begins to wait
-pub may_wait : (ids : List ℕ) (h : List Entry) (did : List (List Effect)) (m : Machine) (ts : List Track) (claims : List Slot) (at : ℕ) (d : Track) → LegalKept ids h did (world_of m ts) claims → IsTrue (are_distinct ids) → IsFirst (is_unkeyed (pick m) claims) ts at → MayWait ids h (get_or ts at d).id
+pub may_wait : (ids : List ℕ) (h : List Entry) (did : List (List Effect)) (m : Machine) (ts : List FedTrack) (claims : List ClaimState) (at : ℕ) (d : FedTrack) → LegalKept ids h did (world_of m ts) claims → IsTrue (are_distinct ids) → IsFirst (is_unkeyed (pick m) claims) ts at → MayWait ids h (get_or ts at d).id
 may_wait ids h did m ts claims at d kept distinct first =
     let t = get_or ts at d in
     let awake = unkeyed_awake (pick m) claims t (first.on d) in
-    let s = free_sample (pick m) (claimed_in claims t.id (length t.outputs.0)) (head (track_of t)) (off t.waiting _ awake (first.on d)) in
+    let s = free_sample (pick m) (claimed_in claims t.id (length t.outputs)) (head (track_of t)) (off t.waiting _ awake (first.on d)) in
     record {
       state = track_of t;
       known = known_at ids h did m ts claims at d kept distinct first.within;
@@ -205,7 +212,7 @@ may_wait ids h did m ts claims at d kept distinct first =
       protect = s.1;
       protected = s.3;
       unpicked = subst (λ (v : World). pick v.machine s.1.kid ≡ None) kept.state s.5;
-      free = free_of ids h claims t.id (length t.outputs.0) kept.claims s.4;
+      free = free_of ids h claims t.id (length t.outputs) kept.claims s.4;
     }
 
 rest_protected : (picks : Picks) (waiting : Bool) (o : Option Protect) → rests_protected picks waiting o ≡ true → IsTrue waiting × Unpicked picks o
@@ -225,7 +232,7 @@ nothing_left [] b told none = refl
 nothing_left (x ∷ xs) b told none = absurd (true≢false (sym (told.1 (λ e. cc)) ∙ none))
 
 -- all at rest
-pub at_rest : (m : Machine) (ts : List Track) → m.jobs ≡ [] → m.tasks ≡ [] → AllRest (rests (pick m)) ts → AtRest (world_of m ts)
+pub at_rest : (m : Machine) (ts : List FedTrack) → m.jobs ≡ [] → m.tasks ≡ [] → AllRest (rests (pick m)) ts → AtRest (world_of m ts)
 at_rest m ts jobs tasks all = record {
   jobs = jobs;
   tasks = tasks;
@@ -234,24 +241,16 @@ at_rest m ts jobs tasks all = record {
 }
 
 -- the pick of a claim
-pub claim_picked : (m : Machine) (ts : List Track) (claims : List Slot) (w : Work) (c : Copied) (d : Track) → IsWork (pick m) claims ts w → IsCopied (get_or ts w.at d) w.index c → pick m c.kid ≡ Some (w.session, w.key)
+pub claim_picked : (m : Machine) (ts : List FedTrack) (claims : List ClaimState) (w : Work) (c : Copied) (d : FedTrack) → IsWork (pick m) claims ts w → IsCopied (get_or ts w.at d) w.index c → pick m c.kid ≡ Some (w.session, w.key)
 claim_picked m ts claims w c d work copied =
     let t = get_or ts w.at d in
-    let protect : protect_at t.fed.0 w.index ≡ Some copied.protect = ap protect_of copied.sample ∙ copied.protected in
-    ap (λ (k : List ℕ). pick m k) copied.kid ∙ (picked_free (pick m) (claimed_in claims t.id w.index) (protect_at t.fed.0 w.index) copied.protect (w.session, w.key) protect (work.on d).picked).1
+    let protect : protect_at t.fed w.index ≡ Some copied.protect = ap protect_of copied.sample ∙ copied.protected in
+    ap (λ (k : List ℕ). pick m k) copied.kid ∙ (picked_free (pick m) (claimed_in claims t.id w.index) (protect_at t.fed w.index) copied.protect (w.session, w.key) protect (work.on d).picked).1
 
-pub any_default : (ts : List Track) (i : ℕ) (d e : Track) → i < length ts → get_or ts i d ≡ get_or ts i e
+pub any_default : (ts : List FedTrack) (i : ℕ) (d e : FedTrack) → i < length ts → get_or ts i d ≡ get_or ts i e
 any_default [] i d e lt = absurd (omega arith)
 any_default (t ∷ ts) zero d e lt = refl
 any_default (t ∷ ts) (suc i) d e lt = any_default ts i d e (omega arith)
-
--- the track at a place stands first with its id
-pub stands_first : (ids : List ℕ) (h : List Entry) (did : List (List Effect)) (m : Machine) (ts : List Track) (claims : List Slot) (i id : ℕ) (d : Track) → LegalKept ids h did (world_of m ts) claims → IsTrue (are_distinct ids) → i < length ts → id ≡ (get_or ts i d).id → Stands ts id i
-stands_first ids h did m ts claims i id d kept distinct lt same = record {
-  within = lt;
-  first = subst (λ (n : ℕ). find_track (map track_of (take i ts)) n ≡ None) (sym same) (stands_at ids h did m ts claims i d kept distinct lt);
-  same = λ e. ap (λ (t : Track). t.id) (any_default ts i e d lt) ∙ sym same;
-}
 
 rest_yes : (picks : Picks) (waiting : Bool) (o : Option Protect) → IsTrue waiting → Unpicked picks o → rests_protected picks waiting o ≡ true
 rest_yes picks waiting None w u = absurd u
@@ -263,7 +262,7 @@ head_yes picks s None r = refl
 head_yes picks s (Some x) r = rest_yes picks s.waiting x.protect r.0 r.1
 
 -- the first track that is not at rest
-pub first_busy : (m : Machine) (ts : List Track) (at : ℕ) (d : Track) → IsUnrested (rests (pick m)) ts at → FirstBusy (world_of m ts) (get_or ts at d).id
+pub first_busy : (m : Machine) (ts : List FedTrack) (at : ℕ) (d : FedTrack) → IsUnrested (rests (pick m)) ts at → FirstBusy (world_of m ts) (get_or ts at d).id
 first_busy m ts at d busy = record {
   at = at;
   within = omega (arith, busy.within, length-map ts track_of);

@@ -14,16 +14,17 @@ use Rattle.clearkey_json.specs.declared.key_set.KeySetFault.{KeySetFault}
 use Rattle.clearkey_json.specs.KeySet.{key_set}
 use Rattle.init_data.specs.declared.fault.InitFault.{InitFault}
 use Rattle.init_data.specs.InitData.{kids_of}
-use Rattle.cdm_state.specs.declared.work.Job.{Job as QueuedJob}
-use Rattle.cdm_state.specs.declared.work.Job.TheVariants.{Request as RequestJob, Update as UpdateJob, Close as CloseJob, Remove as RemoveJob}
-use Rattle.cdm_state.specs.declared.work.Task.{Task as Queued}
-use Rattle.cdm_state.specs.declared.work.Task.TheVariants.{Reject, RequestDone, UpdateDone, CloseDone, RemoveDone, Report, Fire, Resume}
-use Rattle.cdm_state.specs.Machine.{Machine, SessionState, session_at}
-use Rattle.cdm_state.specs.Steps.{Done, with_session}
-use Rattle.cdm_state.specs.Calls.{after_call, create_call, find_label, request_on, request_started, request_kind, start_request, update_on, update_or, or_empty, close_on, remove_on, remove_or, state_fault, is_ending}
-use Rattle.cdm_state.specs.Jobs.{take_job, run_job, request_job, update_job}
-use Rattle.cdm_state.specs.Tasks.{take_task, run_task, is_closed}
-use Rattle.cdm_state.specs.World.{World, empty_world, after_entry}
+use Rattle.task_queue.specs.declared.work.Job.{Job as QueuedJob}
+use Rattle.task_queue.specs.declared.work.Job.TheVariants.{Request as RequestJob, Update as UpdateJob, Close as CloseJob, Remove as RemoveJob}
+use Rattle.task_queue.specs.declared.work.Task.{Task as Queued}
+use Rattle.task_queue.specs.declared.work.Task.TheVariants.{Reject, RequestDone, UpdateDone, CloseDone, RemoveDone, Report, Fire, Resume}
+use Rattle.key_sessions.specs.Machine.{Machine, SessionState, session_at}
+use Rattle.key_sessions.specs.Steps.{Done, with_session}
+use Rattle.key_sessions.specs.Calls.{after_call, create_call, find_label, request_on, request_started, request_kind, start_request, update_on, update_or, or_empty, close_on, remove_on, remove_or, state_fault, is_ending}
+use Rattle.key_sessions.specs.Jobs.{take_job, run_job, request_job, update_job}
+use Rattle.key_sessions.specs.Tasks.{take_task, run_task, is_closed}
+use Rattle.key_sessions.specs.World.{World, empty_world}
+use Rattle.cdm_state.specs.After.{after_entry}
 use Rattle.cdm_state.specs.Moment.{tick_to}
 use Rattle.cdm_state.specs.Law.{MomentIsOfLastTick}
 use Rattle.cdm_state.specs.History.{world}

@@ -1,5 +1,5 @@
 -- What the core keeps, after each of its calls.
-use Rattle.std.proofs.Common.{zero, suc, ◌≡◌, ◌≢◌, ℕ, ◌+◌, ◌-◌, ◌<◌, ◌≤◌, Bool, true, false, IsTrue, List, [], ◌∷◌, ◌++◌, length, get_or, Option, Some, None, inl, inr, refl, ap, sym, subst, ◌∙◌, arith, map, remove, append-nil, Result, Ok, Err, OnOk, is_err}
+use Rattle.std.proofs.Common.{◌≡◌, ◌≢◌, ℕ, ◌+◌, ◌-◌, ◌≤◌, Bool, true, false, IsTrue, List, [], ◌∷◌, ◌++◌, length, get_or, Option, Some, None, refl, ap, sym, subst, ◌∙◌, map, take, append-nil}
 use Rattle.std.specs.Prelude.{filter, if◌then◌else◌, slice_get}
 use Rattle.eme_types.specs.Fed.{are_distinct}
 use Rattle.eme_types.specs.declared.call.AppCall.{AppCall}
@@ -8,39 +8,36 @@ use Rattle.eme_types.specs.declared.call.Event.TheVariants.{WaitingForKey}
 use Rattle.eme_types.specs.declared.media.Fragment.{Fragment}
 use Rattle.eme_types.specs.declared.entry.Entry.{Entry}
 use Rattle.eme_types.specs.declared.entry.Entry.TheVariants.{Call, Job, Task, Tick, Feed, Claim, GiveUp, Publish, PassClear, WaitForKey, Settle}
-use Rattle.cdm_state.specs.declared.track.Track.{Track}
-use Rattle.cdm_state.specs.declared.slot.Slot.{Slot}
-use Rattle.cdm_state.specs.declared.work.Task.{Task as Queued}
-use Rattle.cdm_state.specs.declared.work.Task.TheVariants.{Reject, RequestDone, UpdateDone, CloseDone, RemoveDone, Report, Fire, Resume}
-use Rattle.cdm_state.specs.Machine.{Machine, empty_machine}
-use Rattle.cdm_state.specs.Steps.{queue_task}
-use Rattle.cdm_state.specs.Keys.{pick, held_key}
-use Rattle.cdm_state.specs.Calls.{IsBuilt, after_call}
-use Rattle.cdm_state.specs.Jobs.{after_job}
-use Rattle.cdm_state.specs.Tasks.{after_task, after_tick, take_task}
-use Rattle.cdm_state.specs.Tracks.{TrackState, change_track, empty_track, one_more, set_waiting, feed_parts, resumed}
-use Rattle.cdm_state.specs.TrackOf.{track_of}
-use Rattle.cdm_state.specs.World.{World, fire_encrypted, resumes}
-use Rattle.cdm_state.specs.Slots.{holds_still, is_other}
-use Rattle.cdm_state.specs.declared.choice.Work.{Work}
-use Rattle.cdm_state.specs.declared.choice.Ready.{Ready}
-use Rattle.cdm_state.specs.declared.choice.Copied.{Copied}
-use Rattle.cdm_state.specs.Choice.{resumed_one, IsWork, IsCopied, IsFirst, IsReady, has_clear_head, is_unkeyed}
+use Rattle.key_claims.specs.TracksState.{FedTrack, ClaimState, track_of}
+use Rattle.task_queue.specs.declared.work.Task.{Task as Queued}
+use Rattle.task_queue.specs.declared.work.Task.TheVariants.{Reject, RequestDone, UpdateDone, CloseDone, RemoveDone, Report, Fire, Resume}
+use Rattle.key_sessions.specs.Machine.{Machine, empty_machine}
+use Rattle.key_sessions.specs.Steps.{queue_task}
+use Rattle.key_sessions.specs.Keys.{pick, held_key}
+use Rattle.key_sessions.specs.Calls.{after_call}
+use Rattle.key_sessions.specs.Jobs.{after_job}
+use Rattle.key_sessions.specs.Tasks.{after_task, after_tick, take_task}
+use Rattle.key_statuses.specs.Tracks.{TrackState, change_track, empty_track, find_track, one_more, set_waiting, feed_parts, resumed}
+use Rattle.key_sessions.specs.World.{World, resumes}
+use Rattle.cdm_state.specs.After.{fire_encrypted}
+use Rattle.cdm_state.specs.Slots.{holds_still}
+use Rattle.key_claims.specs.Claims.{is_other}
+use Rattle.key_claims.specs.declared.choice.Work.{Work}
+use Rattle.cdm_state.proofs.Copied.{Copied, IsCopied}
+use Rattle.key_claims.specs.Changes.{resumed_one, changed_at, more_out, with_waiting}
+use Rattle.key_claims.specs.Choice.{IsWork, IsFirst, IsReady, has_clear_head, is_unkeyed}
 use Rattle.cdm_state.specs.Settlements.{effects_in}
 use Rattle.cdm_state.specs.Feeds.{parts_in, inits_in}
-use Rattle.cdm_state.specs.Moves.{ChangedAt}
-use Rattle.cdm_state.specs.In.{In}
-use Rattle.cdm_state.specs.Claims.{Once, LegalKept}
+use Rattle.cdm_state.specs.Claims.{LegalKept}
 use Rattle.cdm_state.specs.Kept.{world_of}
 use Rattle.cdm_state.specs.History.{world, IsLegal, Undelivered, MayFeedNext, MayClaim, MayPublish, MayPassClear, MayWait, AtRest}
-use Rattle.cdm_state.proofs.TrackSteps.{resumed_states, same_yes}
-use Rattle.cdm_state.proofs.TrackLists.{not_same, no_track}
+use Rattle.cdm_state.proofs.TrackLists.{resumed_states, changed_state, out_state}
 use Rattle.cdm_state.proofs.Legal.{legal_stepped, legal_left, legal_ended, legal_claimed}
 use Rattle.cdm_state.proofs.Claiming.{pick_holds}
-use Rattle.cdm_state.proofs.May.{may_claim, may_publish, may_pass, may_wait, claim_picked, stands_first}
+use Rattle.cdm_state.proofs.May.{may_claim, may_publish, may_pass, may_wait, claim_picked, stands_at}
 
 -- a new core
-pub legal_new : (ids : List ℕ) (h : List Entry) (did : List (List Effect)) (m : Machine) (ts : List Track) (claims : List Slot) → h ≡ [] → did ≡ [] → m ≡ empty_machine → map track_of ts ≡ map empty_track ids → claims ≡ [] → LegalKept ids h did (world_of m ts) claims
+pub legal_new : (ids : List ℕ) (h : List Entry) (did : List (List Effect)) (m : Machine) (ts : List FedTrack) (claims : List ClaimState) → h ≡ [] → did ≡ [] → m ≡ empty_machine → map track_of ts ≡ map empty_track ids → claims ≡ [] → LegalKept ids h did (world_of m ts) claims
 unfolding world IsLegal effects_in
 legal_new ids h did m ts claims none nothing empty states unclaimed = rw (none, nothing, unclaimed) (record {
   legal = λ n e at. absurd (absent n e at);
@@ -52,15 +49,15 @@ legal_new ids h did m ts claims none nothing empty states unclaimed = rw (none, 
     absent : (n : ℕ) (e : Entry) → slice_get [] n ≡ Some e → ⊥
     absent n e at = cc
 
-pub legal_call : (ids : List ℕ) (h g : List Entry) (did more : List (List Effect)) (fx : List Effect) (lane line : ℕ) (call : AppCall) (m n : Machine) (ts : List Track) (claims new : List Slot) → LegalKept ids h did (world_of m ts) claims → IsBuilt call → g ≡ h ++ Call lane line call ∷ [] → n ≡ (after_call call m).machine → fx ≡ (after_call call m).effects → more ≡ did ++ fx ∷ [] → new ≡ filter (holds_still n) claims → LegalKept ids g more (world_of n ts) new
-legal_call ids h g did more fx lane line call m n ts claims new kept built is after fxs moreis refreshed =
-    legal_stepped ids h g (Call lane line call) did more fx (world_of m ts) (world_of n ts) claims new kept built (record { plain = λ w t i n k x. cc; ends = λ p x. x; spends = λ s there x. x }) is (ap (λ (k : Machine). world_of k ts) after) fxs moreis refreshed
+pub legal_call : (ids : List ℕ) (h g : List Entry) (did more : List (List Effect)) (fx : List Effect) (lane line : ℕ) (call : AppCall) (m n : Machine) (ts : List FedTrack) (claims new : List ClaimState) → LegalKept ids h did (world_of m ts) claims → g ≡ h ++ Call lane line call ∷ [] → n ≡ (after_call call m).machine → fx ≡ (after_call call m).effects → more ≡ did ++ fx ∷ [] → new ≡ filter (holds_still n) claims → LegalKept ids g more (world_of n ts) new
+legal_call ids h g did more fx lane line call m n ts claims new kept is after fxs moreis refreshed =
+    legal_stepped ids h g (Call lane line call) did more fx (world_of m ts) (world_of n ts) claims new kept tt (record { plain = λ w t i n k x. cc; ends = λ p x. x; spends = λ s there x. x }) is (ap (λ (k : Machine). world_of k ts) after) fxs moreis refreshed
 
-pub legal_job : (ids : List ℕ) (h g : List Entry) (did more : List (List Effect)) (fx : List Effect) (m n : Machine) (ts : List Track) (claims new : List Slot) → LegalKept ids h did (world_of m ts) claims → m.jobs ≢ [] → g ≡ h ++ Job ∷ [] → n ≡ (after_job m).machine → fx ≡ [] → more ≡ did ++ fx ∷ [] → new ≡ filter (holds_still n) claims → LegalKept ids g more (world_of n ts) new
+pub legal_job : (ids : List ℕ) (h g : List Entry) (did more : List (List Effect)) (fx : List Effect) (m n : Machine) (ts : List FedTrack) (claims new : List ClaimState) → LegalKept ids h did (world_of m ts) claims → m.jobs ≢ [] → g ≡ h ++ Job ∷ [] → n ≡ (after_job m).machine → fx ≡ [] → more ≡ did ++ fx ∷ [] → new ≡ filter (holds_still n) claims → LegalKept ids g more (world_of n ts) new
 legal_job ids h g did more fx m n ts claims new kept some is after fxs moreis refreshed =
     legal_stepped ids h g Job did more fx (world_of m ts) (world_of n ts) claims new kept (subst (λ (v : World). v.machine.jobs ≢ []) kept.state some) (record { plain = λ w t i n k x. cc; ends = λ p x. x; spends = λ s there x. x }) is (ap (λ (k : Machine). world_of k ts) after) fxs moreis refreshed
 
-pub legal_tick : (ids : List ℕ) (h g : List Entry) (did more : List (List Effect)) (fx : List Effect) (line moment : ℕ) (m n : Machine) (ts : List Track) (claims new : List Slot) → LegalKept ids h did (world_of m ts) claims → (world ids h).machine.moment ≤ moment → g ≡ h ++ Tick line moment ∷ [] → n ≡ (after_tick moment m).machine → fx ≡ [] → more ≡ did ++ fx ∷ [] → new ≡ filter (holds_still n) claims → LegalKept ids g more (world_of n ts) new
+pub legal_tick : (ids : List ℕ) (h g : List Entry) (did more : List (List Effect)) (fx : List Effect) (line moment : ℕ) (m n : Machine) (ts : List FedTrack) (claims new : List ClaimState) → LegalKept ids h did (world_of m ts) claims → (world ids h).machine.moment ≤ moment → g ≡ h ++ Tick line moment ∷ [] → n ≡ (after_tick moment m).machine → fx ≡ [] → more ≡ did ++ fx ∷ [] → new ≡ filter (holds_still n) claims → LegalKept ids g more (world_of n ts) new
 legal_tick ids h g did more fx line moment m n ts claims new kept later is after fxs moreis refreshed =
     legal_stepped ids h g (Tick line moment) did more fx (world_of m ts) (world_of n ts) claims new kept later (record { plain = λ w t i n k x. cc; ends = λ p x. x; spends = λ s there x. x }) is (ap (λ (k : Machine). world_of k ts) after) fxs moreis refreshed
 
@@ -79,60 +76,36 @@ resume_keys (Resume ∷ tasks) m e = (refl, refl)
 same_picks : (m n : Machine) → n.sessions ≡ m.sessions → n.moment ≡ m.moment → pick n ≡ pick m
 same_picks m n sessions moment = rw (sessions, moment) refl
 
-task_tracks : (b : Bool) (m n : Machine) (ts us : List Track) → (b ≡ true → pick n ≡ pick m) → us ≡ (if b then map (resumed_one (pick n)) ts else ts) → map track_of us ≡ (if b then resumed (pick m) (map track_of ts) else map track_of ts)
+task_tracks : (b : Bool) (m n : Machine) (ts us : List FedTrack) → (b ≡ true → pick n ≡ pick m) → us ≡ (if b then map (resumed_one (pick n)) ts else ts) → map track_of us ≡ (if b then resumed (pick m) (map track_of ts) else map track_of ts)
 task_tracks true m n ts us same is = ap (map track_of) is ∙ (resumed_states (pick n) ts ∙ ap (λ p. resumed p (map track_of ts)) (same refl))
 task_tracks false m n ts us same is = ap (map track_of) is
 
-pub legal_task : (ids : List ℕ) (h g : List Entry) (did more : List (List Effect)) (fx : List Effect) (asked : Bool) (m n : Machine) (ts us : List Track) (claims new : List Slot) → LegalKept ids h did (world_of m ts) claims → m.tasks ≢ [] → g ≡ h ++ Task ∷ [] → n ≡ (after_task m).machine → asked ≡ resumes m.tasks → us ≡ (if asked then map (resumed_one (pick n)) ts else ts) → fx ≡ (after_task m).effects → more ≡ did ++ fx ∷ [] → new ≡ filter (holds_still n) claims → LegalKept ids g more (world_of n us) new
+pub legal_task : (ids : List ℕ) (h g : List Entry) (did more : List (List Effect)) (fx : List Effect) (asked : Bool) (m n : Machine) (ts us : List FedTrack) (claims new : List ClaimState) → LegalKept ids h did (world_of m ts) claims → m.tasks ≢ [] → g ≡ h ++ Task ∷ [] → n ≡ (after_task m).machine → asked ≡ resumes m.tasks → us ≡ (if asked then map (resumed_one (pick n)) ts else ts) → fx ≡ (after_task m).effects → more ≡ did ++ fx ∷ [] → new ≡ filter (holds_still n) claims → LegalKept ids g more (world_of n us) new
 legal_task ids h g did more fx asked m n ts us claims new kept some is after ask looked fxs moreis refreshed =
     let t = task_tracks (resumes m.tasks) m n ts us (λ e. (let k = resume_keys m.tasks m e in same_picks m n (ap (λ (x : Machine). x.sessions) after ∙ k.0) (ap (λ (x : Machine). x.moment) after ∙ k.1))) (rw ask at looked) in
     legal_stepped ids h g Task did more fx (world_of m ts) (world_of n us) claims new kept (subst (λ (v : World). v.machine.tasks ≢ []) kept.state some) (record { plain = λ w t i n k x. cc; ends = λ p x. x; spends = λ s there x. x }) is (ap (λ (k : Machine). let v : World = record { machine = k; tracks = map track_of us } in v) after ∙ ap (λ (xs : List TrackState). let v : World = record { machine = (after_task m).machine; tracks = xs } in v) t) fxs moreis refreshed
 
-pub legal_settle : (ids : List ℕ) (h g : List Entry) (did more : List (List Effect)) (fx : List Effect) (line : ℕ) (m : Machine) (ts : List Track) (claims : List Slot) → LegalKept ids h did (world_of m ts) claims → AtRest (world_of m ts) → g ≡ h ++ Settle line ∷ [] → fx ≡ [] → more ≡ did ++ fx ∷ [] → LegalKept ids g more (world_of m ts) claims
+pub legal_settle : (ids : List ℕ) (h g : List Entry) (did more : List (List Effect)) (fx : List Effect) (line : ℕ) (m : Machine) (ts : List FedTrack) (claims : List ClaimState) → LegalKept ids h did (world_of m ts) claims → AtRest (world_of m ts) → g ≡ h ++ Settle line ∷ [] → fx ≡ [] → more ≡ did ++ fx ∷ [] → LegalKept ids g more (world_of m ts) claims
 legal_settle ids h g did more fx line m ts claims kept rest is fxs moreis =
     legal_left ids h g (Settle line) did more fx (world_of m ts) (world_of m ts) claims kept (subst AtRest kept.state rest) (record { plain = λ w t i n k x. cc; ends = λ p x. x; spends = λ s there x. x }) (record { sessions = refl; moment = refl }) is refl fxs moreis
 
-pub legal_give_up : (ids : List ℕ) (h g : List Entry) (did more : List (List Effect)) (fx : List Effect) (place : ℕ) (m : Machine) (ts : List Track) (claims new : List Slot) → LegalKept ids h did (world_of m ts) claims → Undelivered h place → g ≡ h ++ GiveUp place ∷ [] → fx ≡ [] → more ≡ did ++ fx ∷ [] → new ≡ filter (is_other place) claims → LegalKept ids g more (world_of m ts) new
+pub legal_give_up : (ids : List ℕ) (h g : List Entry) (did more : List (List Effect)) (fx : List Effect) (place : ℕ) (m : Machine) (ts : List FedTrack) (claims new : List ClaimState) → LegalKept ids h did (world_of m ts) claims → Undelivered h place → g ≡ h ++ GiveUp place ∷ [] → fx ≡ [] → more ≡ did ++ fx ∷ [] → new ≡ filter (is_other place) claims → LegalKept ids g more (world_of m ts) new
 legal_give_up ids h g did more fx place m ts claims new kept waits is fxs moreis less =
     legal_ended ids h g (GiveUp place) place did more fx (world_of m ts) (world_of m ts) claims new kept waits (record { plain = λ w t i n k x. cc; this = refl; ends = λ p x. x; spends = λ p x. x }) (record { sessions = refl; moment = refl }) is refl fxs moreis less
 
-is_other_no : (place : ℕ) (s : Slot) → s.place ≡ place → is_other place s ≡ false
-is_other_no place s same = rw (same_yes s.place place same) refl
-
-is_other_yes : (place : ℕ) (s : Slot) → (s.place ≡ place → ⊥) → is_other place s ≡ true
-is_other_yes place s ne = rw (not_same s.place place ne) refl
-
-all_other : (place : ℕ) (xs : List Slot) → ((t : Slot) → In xs t → t.place ≡ place → ⊥) → filter (is_other place) xs ≡ xs
-all_other place [] ne = refl
-all_other place (x ∷ xs) ne = rw (is_other_yes place x (ne x (inl refl))) (ap (λ (ys : List Slot). x ∷ ys) (all_other place xs (λ t there. ne t (inr there))))
-
-In_get : (xs : List Slot) (i : ℕ) (d : Slot) → i < length xs → In xs (get_or xs i d)
-In_get [] i d lt = absurd (omega arith)
-In_get (x ∷ xs) zero d lt = inl refl
-In_get (x ∷ xs) (suc i) d lt = inr (In_get xs i d (omega arith))
-
--- a claim is removed by its place
-pub removed_is : (xs : List Slot) (i : ℕ) (d : Slot) → Once xs → i < length xs → remove xs i ≡ filter (is_other (get_or xs i d).place) xs
-removed_is [] i d once lt = absurd (omega arith)
-removed_is (x ∷ xs) zero d once lt = rw (is_other_no x.place x refl) (sym (all_other x.place xs (λ t there same. once.0 t there (sym same))))
-removed_is (x ∷ xs) (suc i) d once lt =
-    let le : i < length xs = omega arith in
-    let ne = is_other_yes (get_or xs i d).place x (once.0 (get_or xs i d) (In_get xs i d le)) in
-    rw ne (ap (λ (ys : List Slot). x ∷ ys) (removed_is xs i d once.1 le))
-
-pub legal_publish : (ids : List ℕ) (h g : List Entry) (did more : List (List Effect)) (fx : List Effect) (track index place at : ℕ) (m : Machine) (ts us : List Track) (claims new : List Slot) → LegalKept ids h did (world_of m ts) claims → MayPublish ids h track index place → g ≡ h ++ Publish track index place ∷ [] → map track_of us ≡ change_track (map track_of ts) track one_more → fx ≡ [] → more ≡ did ++ fx ∷ [] → new ≡ filter (is_other place) claims → LegalKept ids g more (world_of m us) new
+pub legal_publish : (ids : List ℕ) (h g : List Entry) (did more : List (List Effect)) (fx : List Effect) (track index place at : ℕ) (m : Machine) (ts us : List FedTrack) (claims new : List ClaimState) → LegalKept ids h did (world_of m ts) claims → MayPublish ids h track index place → g ≡ h ++ Publish track index place ∷ [] → map track_of us ≡ change_track (map track_of ts) track one_more → fx ≡ [] → more ≡ did ++ fx ∷ [] → new ≡ filter (is_other place) claims → LegalKept ids g more (world_of m us) new
 legal_publish ids h g did more fx track index place at m ts us claims new kept may is moved fxs moreis less =
     legal_ended ids h g (Publish track index place) place did more fx (world_of m ts) (world_of m us) claims new kept may (record { plain = λ w t i n k x. cc; this = refl; ends = λ p x. x; spends = λ p x. absurd x }) (record { sessions = refl; moment = refl }) is (ap (λ (xs : List TrackState). let v : World = record { machine = m; tracks = xs } in v) moved) fxs moreis less
 
-pub legal_pass : (ids : List ℕ) (h g : List Entry) (did more : List (List Effect)) (fx : List Effect) (track index : ℕ) (m : Machine) (ts us : List Track) (claims : List Slot) → LegalKept ids h did (world_of m ts) claims → MayPassClear ids h track index → g ≡ h ++ PassClear track index ∷ [] → map track_of us ≡ change_track (map track_of ts) track one_more → fx ≡ [] → more ≡ did ++ fx ∷ [] → LegalKept ids g more (world_of m us) claims
+pub legal_pass : (ids : List ℕ) (h g : List Entry) (did more : List (List Effect)) (fx : List Effect) (track index : ℕ) (m : Machine) (ts us : List FedTrack) (claims : List ClaimState) → LegalKept ids h did (world_of m ts) claims → MayPassClear ids h track index → g ≡ h ++ PassClear track index ∷ [] → map track_of us ≡ change_track (map track_of ts) track one_more → fx ≡ [] → more ≡ did ++ fx ∷ [] → LegalKept ids g more (world_of m us) claims
 legal_pass ids h g did more fx track index m ts us claims kept may is moved fxs moreis =
     legal_left ids h g (PassClear track index) did more fx (world_of m ts) (world_of m us) claims kept may (record { plain = λ w t i n k x. cc; ends = λ p x. x; spends = λ s there x. x }) (record { sessions = refl; moment = refl }) is (ap (λ (xs : List TrackState). let v : World = record { machine = m; tracks = xs } in v) moved) fxs moreis
 
-pub legal_wait : (ids : List ℕ) (h g : List Entry) (did more : List (List Effect)) (fx : List Effect) (track : ℕ) (m n : Machine) (ts us : List Track) (claims : List Slot) → LegalKept ids h did (world_of m ts) claims → MayWait ids h track → g ≡ h ++ WaitForKey track ∷ [] → n ≡ queue_task (Fire (WaitingForKey track)) m → map track_of us ≡ change_track (map track_of ts) track set_waiting → fx ≡ [] → more ≡ did ++ fx ∷ [] → LegalKept ids g more (world_of n us) claims
+pub legal_wait : (ids : List ℕ) (h g : List Entry) (did more : List (List Effect)) (fx : List Effect) (track : ℕ) (m n : Machine) (ts us : List FedTrack) (claims : List ClaimState) → LegalKept ids h did (world_of m ts) claims → MayWait ids h track → g ≡ h ++ WaitForKey track ∷ [] → n ≡ queue_task (Fire (WaitingForKey track)) m → map track_of us ≡ change_track (map track_of ts) track set_waiting → fx ≡ [] → more ≡ did ++ fx ∷ [] → LegalKept ids g more (world_of n us) claims
 legal_wait ids h g did more fx track m n ts us claims kept may is queued moved fxs moreis =
     legal_left ids h g (WaitForKey track) did more fx (world_of m ts) (world_of n us) claims kept may (record { plain = λ w t i n k x. cc; ends = λ p x. x; spends = λ s there x. x }) (record { sessions = refl; moment = refl }) is (ap (λ (k : Machine). let v : World = record { machine = k; tracks = map track_of us } in v) queued ∙ ap (λ (xs : List TrackState). let v : World = record { machine = queue_task (Fire (WaitingForKey track)) m; tracks = xs } in v) moved) fxs moreis
 
-pub legal_feed : (ids : List ℕ) (h g : List Entry) (did more : List (List Effect)) (fx : List Effect) (line : ℕ) (f : Option Fragment) (m n : Machine) (ts us : List Track) (claims : List Slot) → LegalKept ids h did (world_of m ts) claims → MayFeedNext ids h f → g ≡ h ++ Feed line f ∷ [] → n ≡ record m { tasks = m.tasks ++ map fire_encrypted (inits_in f) } → map track_of us ≡ feed_parts (map track_of ts) (parts_in f) → fx ≡ [] → more ≡ did ++ fx ∷ [] → LegalKept ids g more (world_of n us) claims
+pub legal_feed : (ids : List ℕ) (h g : List Entry) (did more : List (List Effect)) (fx : List Effect) (line : ℕ) (f : Option Fragment) (m n : Machine) (ts us : List FedTrack) (claims : List ClaimState) → LegalKept ids h did (world_of m ts) claims → MayFeedNext ids h f → g ≡ h ++ Feed line f ∷ [] → n ≡ record m { tasks = m.tasks ++ map fire_encrypted (inits_in f) } → map track_of us ≡ feed_parts (map track_of ts) (parts_in f) → fx ≡ [] → more ≡ did ++ fx ∷ [] → LegalKept ids g more (world_of n us) claims
 legal_feed ids h g did more fx line None m n ts us claims kept may is queued moved fxs moreis =
     legal_left ids h g (Feed line None) did more fx (world_of m ts) (world_of n us) claims kept may (record { plain = λ w t i n k x. cc; ends = λ p x. x; spends = λ s there x. x }) (record { sessions = refl; moment = refl }) is (ap (λ (k : Machine). let v : World = record { machine = k; tracks = map track_of us } in v) (queued ∙ nothing_queued m) ∙ ap (λ (xs : List TrackState). let v : World = record { machine = m; tracks = xs } in v) moved) fxs moreis
   where
@@ -141,31 +114,26 @@ legal_feed ids h g did more fx line None m n ts us claims kept may is queued mov
 legal_feed ids h g did more fx line (Some f) m n ts us claims kept may is queued moved fxs moreis =
     legal_left ids h g (Feed line (Some f)) did more fx (world_of m ts) (world_of n us) claims kept may (record { plain = λ w t i n k x. cc; ends = λ p x. x; spends = λ s there x. x }) (record { sessions = refl; moment = refl }) is (ap (λ (k : Machine). let v : World = record { machine = k; tracks = map track_of us } in v) queued ∙ ap (λ (xs : List TrackState). let v : World = record { machine = record m { tasks = m.tasks ++ map fire_encrypted f.inits }; tracks = xs } in v) moved) fxs moreis
 
-pub legal_claim : (ids : List ℕ) (h g : List Entry) (did more : List (List Effect)) (fx : List Effect) (m : Machine) (ts : List Track) (claims new : List Slot) (w : Work) (c : Copied) (s : Slot) (d : Track) → LegalKept ids h did (world_of m ts) claims → IsTrue (are_distinct ids) → IsWork (pick m) claims ts w → IsCopied (get_or ts w.at d) w.index c → s.track ≡ (get_or ts w.at d).id → s.index ≡ w.index → s.session ≡ w.session → s.key ≡ w.key → s.kid ≡ c.again → s.clear ≡ None → s.place ≡ length h + 1 → g ≡ h ++ Claim s.worker s.track s.index s.session c.kid ∷ [] → fx ≡ [] → more ≡ did ++ fx ∷ [] → new ≡ claims ++ s ∷ [] → LegalKept ids g more (world_of m ts) new
-legal_claim ids h g did more fx m ts claims new w c s d kept distinct work copied track index session key kid clear place is fxs moreis added =
-    let same : s.kid ≡ c.kid = kid ∙ (copied.again ∙ sym copied.kid) in
+pub legal_claim : (ids : List ℕ) (h g : List Entry) (did more : List (List Effect)) (fx : List Effect) (m : Machine) (ts : List FedTrack) (claims new : List ClaimState) (w : Work) (c : Copied) (s : ClaimState) (d : FedTrack) → LegalKept ids h did (world_of m ts) claims → IsTrue (are_distinct ids) → IsWork (pick m) claims ts w → IsCopied (get_or ts w.at d) w.index c → s.track ≡ (get_or ts w.at d).id → s.index ≡ w.index → s.session ≡ w.session → s.key ≡ w.key → s.kid ≡ c.kid → s.clear ≡ None → s.place ≡ length h + 1 → g ≡ h ++ Claim s.worker s.track s.index s.session c.kid ∷ [] → fx ≡ [] → more ≡ did ++ fx ∷ [] → new ≡ claims ++ s ∷ [] → LegalKept ids g more (world_of m ts) new
+legal_claim ids h g did more fx m ts claims new w c s d kept distinct work copied track index session key same clear place is fxs moreis added =
     let may : MayClaim ids h s.track s.index s.session s.kid = rw (track, index, session, same) (may_claim ids h did m ts claims w c d kept distinct work copied) in
     let holds : held_key m s.session s.kid ≡ Some s.key = rw (session, key, same) (pick_holds m c.kid w.session w.key (claim_picked m ts claims w c d work copied)) in
     legal_claimed ids h g did more fx (world_of m ts) (world_of m ts) claims new s kept may place clear holds (is ∙ ap (λ (k : List ℕ). h ++ Claim s.worker s.track s.index s.session k ∷ []) (sym same)) refl fxs moreis added
 
-pub pass_at : (ids : List ℕ) (h g : List Entry) (did more : List (List Effect)) (fx : List Effect) (track index at : ℕ) (m : Machine) (ts us : List Track) (claims : List Slot) → LegalKept ids h did (world_of m ts) claims → IsTrue (are_distinct ids) → IsFirst has_clear_head ts at → ((d : Track) → track ≡ (get_or ts at d).id) → ((d : Track) → index ≡ length (get_or ts at d).outputs.0) → ChangedAt ts us at one_more → g ≡ h ++ PassClear track index ∷ [] → fx ≡ [] → more ≡ did ++ fx ∷ [] → LegalKept ids g more (world_of m us) claims
-pass_at ids h g did more fx track index at m ts us claims kept distinct first t i moved is fxs moreis =
-    let a = t no_track in
-    let b = i no_track in
-    let may : MayPassClear ids h track index = rw (a, b) (may_pass ids h did m ts claims at no_track kept distinct first) in
-    legal_pass ids h g did more fx track index m ts us claims kept may is (moved track (stands_first ids h did m ts claims at track no_track kept distinct first.within a)) fxs moreis
+pub pass_at : (ids : List ℕ) (h g : List Entry) (did more : List (List Effect)) (fx : List Effect) (track index at : ℕ) (bytes : List ℕ) (m : Machine) (ts : List FedTrack) (claims : List ClaimState) (d : FedTrack) → LegalKept ids h did (world_of m ts) claims → IsTrue (are_distinct ids) → IsFirst has_clear_head ts at → track ≡ (get_or ts at d).id → index ≡ length (get_or ts at d).outputs → g ≡ h ++ PassClear track index ∷ [] → fx ≡ [] → more ≡ did ++ fx ∷ [] → LegalKept ids g more (world_of m (changed_at ts at (more_out bytes))) claims
+pass_at ids h g did more fx track index at bytes m ts claims d kept distinct first a b is fxs moreis =
+    let may : MayPassClear ids h track index = rw (a, b) (may_pass ids h did m ts claims at d kept distinct first) in
+    let none = subst (λ (n : ℕ). find_track (map track_of (take at ts)) n ≡ None) (sym a) (stands_at ids h did m ts claims at d kept distinct first.within) in
+    legal_pass ids h g did more fx track index m ts (changed_at ts at (more_out bytes)) claims kept may is (changed_state ts at track (more_out bytes) one_more d (out_state bytes) first.within none (sym a)) fxs moreis
 
-pub wait_at : (ids : List ℕ) (h g : List Entry) (did more : List (List Effect)) (fx : List Effect) (track at : ℕ) (m n : Machine) (ts us : List Track) (claims : List Slot) (d : Track) → LegalKept ids h did (world_of m ts) claims → IsTrue (are_distinct ids) → IsFirst (is_unkeyed (pick m) claims) ts at → track ≡ (get_or ts at d).id → ChangedAt ts us at set_waiting → g ≡ h ++ WaitForKey track ∷ [] → n ≡ queue_task (Fire (WaitingForKey track)) m → fx ≡ [] → more ≡ did ++ fx ∷ [] → LegalKept ids g more (world_of n us) claims
-wait_at ids h g did more fx track at m n ts us claims d kept distinct first t moved is queued fxs moreis =
+pub wait_at : (ids : List ℕ) (h g : List Entry) (did more : List (List Effect)) (fx : List Effect) (track at : ℕ) (m n : Machine) (ts : List FedTrack) (claims : List ClaimState) (d : FedTrack) → LegalKept ids h did (world_of m ts) claims → IsTrue (are_distinct ids) → IsFirst (is_unkeyed (pick m) claims) ts at → track ≡ (get_or ts at d).id → g ≡ h ++ WaitForKey track ∷ [] → n ≡ queue_task (Fire (WaitingForKey track)) m → fx ≡ [] → more ≡ did ++ fx ∷ [] → LegalKept ids g more (world_of n (changed_at ts at (with_waiting true))) claims
+wait_at ids h g did more fx track at m n ts claims d kept distinct first t is queued fxs moreis =
     let may : MayWait ids h track = rw t (may_wait ids h did m ts claims at d kept distinct first) in
-    legal_wait ids h g did more fx track m n ts us claims kept may is queued (moved track (stands_first ids h did m ts claims at track d kept distinct first.within t)) fxs moreis
+    let none = subst (λ (k : ℕ). find_track (map track_of (take at ts)) k ≡ None) (sym t) (stands_at ids h did m ts claims at d kept distinct first.within) in
+    legal_wait ids h g did more fx track m n ts (changed_at ts at (with_waiting true)) claims kept may is queued (changed_state ts at track (with_waiting true) set_waiting d (λ x. refl) first.within none (sym t)) fxs moreis
 
-pub publish_at : (ids : List ℕ) (h g : List Entry) (did more : List (List Effect)) (fx : List Effect) (m : Machine) (ts us : List Track) (claims new : List Slot) (r : Ready) (s : Slot) → LegalKept ids h did (world_of m ts) claims → IsTrue (are_distinct ids) → IsReady claims ts r → s ≡ get_or claims r.slot s → ChangedAt ts us r.at one_more → g ≡ h ++ Publish s.track s.index s.place ∷ [] → fx ≡ [] → more ≡ did ++ fx ∷ [] → new ≡ remove claims r.slot → LegalKept ids g more (world_of m us) new
-publish_at ids h g did more fx m ts us claims new r s kept distinct ready here moved is fxs moreis less =
-    let may = may_publish ids h did m ts claims r s no_track kept distinct ready here in
-    let gone : new ≡ filter (is_other s.place) claims = less ∙ (removed_is claims r.slot s kept.claims.once (ready.on no_track).slot.within ∙ ap (λ (x : Slot). filter (is_other x.place) claims) (sym here)) in
-    legal_publish ids h g did more fx s.track s.index s.place r.at m ts us claims new kept may.0 is (moved s.track (stands_first ids h did m ts claims r.at s.track no_track kept distinct ready.within may.1)) fxs moreis gone
-
-pub on_ok : {A E P : Type 0} (r : Result A E) → is_err r ≡ false → OnOk r P → P
-on_ok (Ok x) e p = p
-on_ok (Err x) e p = absurd cc
+pub publish_at : (ids : List ℕ) (h g : List Entry) (did more : List (List Effect)) (fx : List Effect) (track index at place : ℕ) (bytes : List ℕ) (m : Machine) (ts : List FedTrack) (claims new : List ClaimState) (d : FedTrack) → LegalKept ids h did (world_of m ts) claims → IsTrue (are_distinct ids) → IsReady claims ts at place → track ≡ (get_or ts at d).id → index ≡ length (get_or ts at d).outputs → g ≡ h ++ Publish track index place ∷ [] → fx ≡ [] → more ≡ did ++ fx ∷ [] → new ≡ filter (is_other place) claims → LegalKept ids g more (world_of m (changed_at ts at (more_out bytes))) new
+publish_at ids h g did more fx track index at place bytes m ts claims new d kept distinct ready a b is fxs moreis less =
+    let may : MayPublish ids h track index place = rw (a, b) (may_publish ids h did m ts claims at place d kept distinct ready).may in
+    let none = subst (λ (n : ℕ). find_track (map track_of (take at ts)) n ≡ None) (sym a) (stands_at ids h did m ts claims at d kept distinct ready.within) in
+    legal_publish ids h g did more fx track index place at m ts (changed_at ts at (more_out bytes)) claims new kept may is (changed_state ts at track (more_out bytes) one_more d (out_state bytes) ready.within none (sym a)) fxs moreis less

@@ -4,18 +4,17 @@ use Rattle.std.specs.Prelude.{slice_get, not, ◌==◌, filter}
 use Rattle.std.specs.List.{sum_by}
 use Rattle.std.proofs.lemmas.List.Sums.{sum_by-append}
 use Rattle.std.proofs.lemmas.Bool.Decides.{eqb_tells}
-use Rattle.eme_types.specs.Fed.{max_samples}
+use Rattle.eme_types.specs.Fed.{max_samples, part_samples}
+use Rattle.cdm_state.specs.Feeds.{parts_in}
 use Rattle.eme_types.specs.declared.entry.Entry.{Entry}
 use Rattle.eme_types.specs.declared.entry.Entry.TheVariants.{Claim}
-use Rattle.cdm_state.specs.declared.track.Track.{Track}
-use Rattle.cdm_state.specs.In.{In}
-use Rattle.cdm_state.specs.TrackOf.{AreRoomy, all_left, all_awake, fed_of}
+use Rattle.key_claims.specs.TracksState.{FedTrack}
+use Rattle.key_statuses.specs.In.{In}
+use Rattle.key_claims.specs.TrackValue.{all_left, all_fed}
+use Rattle.cdm_state.specs.Kept.{all_awake, RoomKept, KeptAs}
 use Rattle.cdm_state.specs.History.{Spends, Undelivered, fed_samples, fed_samples_of, MayFeedNext, samples_in}
 use Rattle.eme_types.specs.declared.media.Fragment.{Fragment}
-use Rattle.cdm_state.specs.Kept.{RoomKept, KeptAs}
-use Rattle.cdm_state.specs.Moves.{GivesOut, Sleeps, AreEmpty}
-use Rattle.cdm_state.specs.Feeds.{Grown}
-use Rattle.cdm_state.proofs.TrackLists.{awake_within}
+use Rattle.cdm_state.proofs.TrackLists.{awake_within, GivesOut, Sleeps, Grown}
 
 -- where the items of a list with one more stand
 pub either_place : (h : List Entry) (e : Entry) (n : ℕ) (x : Entry) → slice_get (h ++ e ∷ []) n ≡ Some x → ((slice_get h n ≡ Some x) × (take n (h ++ e ∷ []) ≡ take n h)) ⊎ ((x ≡ e) × (take n (h ++ e ∷ []) ≡ h) × (n ≡ length h))
@@ -88,21 +87,21 @@ fed_more : (h : List Entry) (e : Entry) → fed_samples (h ++ e ∷ []) ≡ fed_
 fed_more h e = sum_by-append fed_samples_of h (e ∷ []) ∙ omega arith
 
 -- after an entry that is no claim, feeds nothing and leaves the places
-pub kept_more : (h g : List Entry) (e : Entry) (ts us : List Track) (places : List ℕ) → g ≡ h ++ e ∷ [] → IsPlain e → fed_samples_of e ≡ 0 → sum_by fed_of us ≤ sum_by fed_of ts → KeptAs h ts places → KeptAs g us places
+pub kept_more : (h g : List Entry) (e : Entry) (ts us : List FedTrack) (places : List ℕ) → g ≡ h ++ e ∷ [] → IsPlain e → fed_samples_of e ≡ 0 → all_fed us ≤ all_fed ts → KeptAs h ts places → KeptAs g us places
 kept_more h g e ts us places is plain none le kept = rw is (record {
   limit = omega (arith, fed_more h e, none, kept.limit);
   fed = omega (arith, fed_more h e, none, kept.fed, le);
   waits = λ c u. kept.waits c (waited h e c plain u).0;
 })
 
-pub kept_fed : (h g : List Entry) (e : Entry) (ts us : List Track) (places : List ℕ) (n : ℕ) → g ≡ h ++ e ∷ [] → IsPlain e → fed_samples_of e ≡ n → fed_samples h + n ≤ max_samples → sum_by fed_of us ≤ sum_by fed_of ts + n → KeptAs h ts places → KeptAs g us places
+pub kept_fed : (h g : List Entry) (e : Entry) (ts us : List FedTrack) (places : List ℕ) (n : ℕ) → g ≡ h ++ e ∷ [] → IsPlain e → fed_samples_of e ≡ n → fed_samples h + n ≤ max_samples → all_fed us ≤ all_fed ts + n → KeptAs h ts places → KeptAs g us places
 kept_fed h g e ts us places n is plain some limit le kept = rw is (record {
   limit = omega (arith, fed_more h e, some, limit);
   fed = omega (arith, fed_more h e, some, kept.fed, le);
   waits = λ c u. kept.waits c (waited h e c plain u).0;
 })
 
-pub kept_claim : (h g : List Entry) (e : Entry) (ts : List Track) (places more : List ℕ) (place : ℕ) → g ≡ h ++ e ∷ [] → fed_samples_of e ≡ 0 → place ≡ length h + 1 → more ≡ places ++ place ∷ [] → KeptAs h ts places → KeptAs g ts more
+pub kept_claim : (h g : List Entry) (e : Entry) (ts : List FedTrack) (places more : List ℕ) (place : ℕ) → g ≡ h ++ e ∷ [] → fed_samples_of e ≡ 0 → place ≡ length h + 1 → more ≡ places ++ place ∷ [] → KeptAs h ts places → KeptAs g ts more
 kept_claim h g e ts places more place is none here added kept = rw (is, added) (record {
   limit = omega (arith, fed_more h e, none, kept.limit);
   fed = omega (arith, fed_more h e, none, kept.fed);
@@ -112,7 +111,7 @@ kept_claim h g e ts places more place is none here added kept = rw (is, added) (
   ];
 })
 
-pub kept_spent : (h g : List Entry) (e : Entry) (ts : List Track) (places fewer : List ℕ) (place : ℕ) → g ≡ h ++ e ∷ [] → IsPlain e → fed_samples_of e ≡ 0 → Spends e place → fewer ≡ filter (other place) places → KeptAs h ts places → KeptAs g ts fewer
+pub kept_spent : (h g : List Entry) (e : Entry) (ts : List FedTrack) (places fewer : List ℕ) (place : ℕ) → g ≡ h ++ e ∷ [] → IsPlain e → fed_samples_of e ≡ 0 → Spends e place → fewer ≡ filter (other place) places → KeptAs h ts places → KeptAs g ts fewer
 kept_spent h g e ts places fewer place is plain none spends less kept = rw (is, less) (record {
   limit = omega (arith, fed_more h e, none, kept.limit);
   fed = omega (arith, fed_more h e, none, kept.fed);
@@ -120,60 +119,59 @@ kept_spent h g e ts places fewer place is plain none spends less kept = rw (is, 
 })
 
 -- room after a step that reserved it, and then took one entry
-pub room_stepped : (ts : List Track) (w n m k a b : ℕ) → AreRoomy ts → w + length ts + all_left ts + 1 ≤ a → w + length ts + all_left ts + 1 ≤ b → a ≤ n + 1 → b ≤ m + 1 → all_awake ts ≤ k → RoomKept n m k ts w
-room_stepped ts w n m k a b roomy h e hn em le = record {
+pub room_stepped : (ts : List FedTrack) (w n m k a b : ℕ) → w + length ts + all_left ts + 1 ≤ a → w + length ts + all_left ts + 1 ≤ b → a ≤ n + 1 → b ≤ m + 1 → all_awake ts ≤ k → RoomKept n m k ts w
+room_stepped ts w n m k a b h e hn em le = record {
   history = omega (arith, awake_within ts, h, hn);
   effects = omega (arith, awake_within ts, e, em);
   events = le;
-  tracks = roomy;
 }
 
 -- room after a claim was delivered or given up
-pub room_spent : (ts : List Track) (w v n m k a b : ℕ) → v + 1 ≤ w → n ≤ a + 1 → m ≤ b + 1 → RoomKept n m k ts w → RoomKept a b k ts v
+pub room_spent : (ts : List FedTrack) (w v n m k a b : ℕ) → v + 1 ≤ w → n ≤ a + 1 → m ≤ b + 1 → RoomKept n m k ts w → RoomKept a b k ts v
 room_spent ts w v n m k a b less na mb room = record {
   history = omega (arith, room.history, less, na);
   effects = omega (arith, room.effects, less, mb);
   events = room.events;
-  tracks = room.tracks;
 }
 
 -- room after a publication
-pub room_out : (ts us : List Track) (w n m k a b : ℕ) → GivesOut ts us → n ≤ a + 1 → m ≤ b + 1 → RoomKept n m k ts w → RoomKept a b k us w
+pub room_out : (ts us : List FedTrack) (w n m k a b : ℕ) → GivesOut ts us → n ≤ a + 1 → m ≤ b + 1 → RoomKept n m k ts w → RoomKept a b k us w
 room_out ts us w n m k a b out na mb room = record {
   history = omega (arith, room.history, out.left, out.awake, na);
   effects = omega (arith, room.effects, out.left, out.awake, mb);
   events = omega (arith, room.events, out.awake);
-  tracks = out.roomy;
 }
 
 -- room after a track began to wait
-pub room_asleep : (ts us : List Track) (w n m k a b c : ℕ) → Sleeps ts us → n ≤ a + 1 → m ≤ b + 1 → k ≤ c + 1 → RoomKept n m k ts w → RoomKept a b c us w
+pub room_asleep : (ts us : List FedTrack) (w n m k a b c : ℕ) → Sleeps ts us → n ≤ a + 1 → m ≤ b + 1 → k ≤ c + 1 → RoomKept n m k ts w → RoomKept a b c us w
 room_asleep ts us w n m k a b c asleep na mb kc room = record {
   history = omega (arith, room.history, asleep.left, asleep.awake, na);
   effects = omega (arith, room.effects, asleep.left, asleep.awake, mb);
   events = omega (arith, room.events, asleep.awake, kc);
-  tracks = asleep.roomy room.tracks;
 }
 
 -- room after a feed
-pub room_fed : (ts us : List Track) (w x n m k a b : ℕ) → Grown ts us x → AreRoomy ts → w + length ts + all_left ts + (x + 1) ≤ a → w + length ts + all_left ts + (x + 1) ≤ b → a ≤ n + 1 → b ≤ m + 1 → length ts ≤ k → RoomKept n m k us w
-room_fed ts us w x n m k a b g roomy h e hn em le = record {
+pub room_fed : (ts us : List FedTrack) (w x n m k a b : ℕ) → Grown ts us x → w + length ts + all_left ts + (x + 1) ≤ a → w + length ts + all_left ts + (x + 1) ≤ b → a ≤ n + 1 → b ≤ m + 1 → length ts ≤ k → RoomKept n m k us w
+room_fed ts us w x n m k a b g h e hn em le = record {
   history = omega (arith, awake_within ts, g.left, g.awake, h, hn);
   effects = omega (arith, awake_within ts, g.left, g.awake, e, em);
   events = omega (arith, awake_within ts, g.awake, le);
-  tracks = g.roomy roomy;
 }
 
 pub fed_limit : (ids : List ℕ) (h : List Entry) (f : Option Fragment) → fed_samples h ≤ max_samples → MayFeedNext ids h f → fed_samples h + samples_in f ≤ max_samples
 fed_limit ids h None few may = omega (arith, few)
 fed_limit ids h (Some f) few may = may.samples
 
-pub kept_new : (h : List Entry) (ts : List Track) (places ids : List ℕ) → h ≡ [] → AreEmpty ts ids → KeptAs h ts places
-kept_new h ts places ids none e = rw none (record {
+pub kept_new : (h : List Entry) (ts : List FedTrack) (places : List ℕ) → h ≡ [] → all_fed ts ≡ 0 → KeptAs h ts places
+kept_new h ts places none unfed = rw none (record {
   limit = omega arith;
-  fed = omega (arith, e.fed);
+  fed = omega (arith, unfed);
   waits = λ c u. absurd (nothing (c - 1) _ u.at.1);
 })
   where
     nothing : (n : ℕ) (x : Entry) → slice_get [] n ≡ Some x → ⊥
     nothing n x e = cc
+
+pub same_count : (f : Option Fragment) → sum_by part_samples (parts_in f) ≡ samples_in f
+same_count None = refl
+same_count (Some f) = refl

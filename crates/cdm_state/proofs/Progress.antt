@@ -1,5 +1,5 @@
 -- A core that can do nothing more is at rest.
-use Rattle.std.proofs.Common.{zero, suc, ◌≡◌, ℕ, ◌+◌, ◌-◌, ◌<◌, ◌≤◌, inl, inr, Bool, true, false, not, ◌&&◌, ◌||◌, IsTrue, List, [], ◌∷◌, ◌++◌, map, length, get_or, Option, Some, None, is_some, refl, ap, sym, subst, ◌∙◌, arith, true≢false, eqb}
+use Rattle.std.proofs.Common.{zero, suc, ◌≡◌, ℕ, ◌+◌, ◌-◌, ◌<◌, inl, inr, Bool, true, false, not, IsTrue, List, [], ◌∷◌, ◌++◌, map, length, get_or, Option, Some, None, is_some, refl, ap, sym, subst, ◌∙◌, arith, true≢false, eqb}
 use Rattle.std.specs.Prelude.{slice_get, Contains, filter}
 use Rattle.std.proofs.lemmas.Bool.Decides.{eqb_tells}
 use Rattle.eme_types.specs.Fed.{are_distinct, is_among}
@@ -10,25 +10,27 @@ use Rattle.eme_types.specs.declared.entry.Entry.{Entry}
 use Rattle.eme_types.specs.declared.entry.Entry.TheVariants.{Call, Job, Task, Tick, Feed, Claim, Deliver, GiveUp, Publish, PassClear, WaitForKey, Settle}
 use Rattle.eme_types.specs.declared.entry.Verdict.{Verdict}
 use Rattle.eme_types.specs.declared.entry.Verdict.TheVariants.{Taken, Stale}
-use Rattle.cdm_state.specs.declared.slot.Slot.{Slot}
-use Rattle.cdm_state.specs.Machine.{Machine}
-use Rattle.cdm_state.specs.Keys.{pick}
-use Rattle.cdm_state.specs.Tracks.{Picks, TrackState, head, find_track, Unpicked, HeadAtRest, TrackAtRest}
-use Rattle.cdm_state.specs.World.{World, after_entry}
+use Rattle.key_claims.specs.TracksState.{ClaimState}
+use Rattle.key_sessions.specs.Machine.{Machine}
+use Rattle.key_sessions.specs.Keys.{pick}
+use Rattle.key_statuses.specs.Tracks.{TrackState, head, find_track, Unpicked, HeadAtRest}
+use Rattle.key_sessions.specs.World.{World}
+use Rattle.cdm_state.specs.After.{after_entry}
 use Rattle.cdm_state.specs.Output.{fed_at, fed_sample}
-use Rattle.cdm_state.specs.Slots.{entry_of, holds_still, is_other, has_place, give_clear}
-use Rattle.cdm_state.specs.In.{In}
+use Rattle.cdm_state.specs.Slots.{entry_of, holds_still}
+use Rattle.key_claims.specs.Claims.{is_other, has_place, give_clear}
 use Rattle.cdm_state.specs.Claims.{ClaimsKept, ClearKept}
-use Rattle.cdm_state.specs.History.{world, IsLegal, Allowed, AtRest, IsAt, LiveOn, MayClaim}
+use Rattle.cdm_state.specs.History.{world, IsLegal, Allowed, IsAt, LiveOn, MayClaim}
 use Rattle.cdm_state.specs.Progress.{NoneWaits, NothingToDo, ComesToRest}
-use Rattle.cdm_state.proofs.TrackSteps.{same_yes}
+use Rattle.cdm_state.proofs.TrackLists.{same_yes}
 use Rattle.cdm_state.proofs.TrackIds.{state_id, world_ids, or_right, and_both, not_true}
 use Rattle.cdm_state.proofs.Histories.{world_more, legal_induction}
 use Rattle.cdm_state.proofs.Live.{SameKeys, LeavesClaims, EndsOne, claims_go_on, claims_end, live_now}
 use Rattle.cdm_state.proofs.Claiming.{pick_holds, claims_new, claims_taken, claims_stale, is_live}
 use Rattle.cdm_state.proofs.May.{live_slot}
 use Rattle.cdm_state.proofs.FedOn.{fed_since}
-use Rattle.cdm_state.proofs.Usable.{held_picked, resume_queued}
+use Rattle.cdm_state.specs.Waiting.{resume_queued}
+use Rattle.cdm_state.proofs.Usable.{held_picked}
 use Rattle.cdm_state.proofs.Resuming.{all_asleep}
 
 some_alone : {A : Type 0} (x y : A) → Some x ≡ Some y → x ≡ y
@@ -37,9 +39,9 @@ some_alone x y e = cc
 -- After each legal history some list of claims is just the live ones.
 
 abbrev Keeps : List ℕ → List Entry → Type 0
-Keeps ids h = (claims : List Slot) × ClaimsKept ids h claims
+Keeps ids h = (claims : List ClaimState) × ClaimsKept ids h claims
 
-keeps_left : (ids : List ℕ) (h : List Entry) (e : Entry) → ((claims : List Slot) → LeavesClaims e claims) → Keeps ids h → Keeps ids (h ++ e ∷ [])
+keeps_left : (ids : List ℕ) (h : List Entry) (e : Entry) → ((claims : List ClaimState) → LeavesClaims e claims) → Keeps ids h → Keeps ids (h ++ e ∷ [])
 keeps_left ids h e leaves k = (filter (holds_still (world ids (h ++ e ∷ [])).machine) k.0, claims_go_on ids h e k.0 (leaves k.0) k.1)
 
 same_machine : (ids : List ℕ) (h : List Entry) (e : Entry) → (after_entry (world ids h) e).machine ≡ (world ids h).machine → SameKeys (world ids h).machine (world ids (h ++ e ∷ [])).machine
@@ -52,7 +54,7 @@ keeps_ended ids h e place ends same k = (filter (is_other place) k.0, claims_end
 
 keeps_claimed : (ids : List ℕ) (h : List Entry) (worker track index session : ℕ) (kid : List ℕ) → IsLegal ids h → MayClaim ids h track index session kid → Keeps ids h → Keeps ids (h ++ Claim worker track index session kid ∷ [])
 keeps_claimed ids h worker track index session kid legal may k =
-    let s : Slot = record { place = length h + 1; worker = worker; track = track; index = index; session = session; kid = kid; key = may.key; clear = None } in
+    let s : ClaimState = record { place = length h + 1; worker = worker; track = track; index = index; session = session; kid = kid; key = may.key; clear = None } in
     (k.0 ++ s ∷ [], claims_new ids h k.0 s legal refl refl (pick_holds (world ids h).machine kid session may.key may.picked) k.1)
 
 keeps_delivered : (ids : List ℕ) (h : List Entry) (place : ℕ) (verdict : Verdict) → Allowed ids h (Deliver place verdict) → Keeps ids h → Keeps ids (h ++ Deliver place verdict ∷ [])
@@ -97,7 +99,7 @@ delivered ids h place track index legal none on =
     subst (λ (p : ℕ). Contains h (Deliver p Taken)) s.place_ (clear_or_waits h s.slot.place s.slot.clear none (k.1.clear s.slot s.there))
 
 -- the key id of a live claim is that of its sample
-sample_kid : (ids : List ℕ) (h : List Entry) (s : Slot) (x : EncSample) (p : Protect) → IsLegal ids h → IsAt h s.place (entry_of s) → fed_sample (world ids h) s.track s.index ≡ Some x → x.protect ≡ Some p → s.kid ≡ p.kid
+sample_kid : (ids : List ℕ) (h : List Entry) (s : ClaimState) (x : EncSample) (p : Protect) → IsLegal ids h → IsAt h s.place (entry_of s) → fed_sample (world ids h) s.track s.index ≡ Some x → x.protect ≡ Some p → s.kid ≡ p.kid
 unfolding IsLegal
 sample_kid ids h s x p legal at fed protected =
     let may = legal (s.place - 1) (entry_of s) at.1 in

@@ -1,5 +1,5 @@
 -- A track that waits: its head is protected and has no live claim, and once the head's key id has a pick what looks at it again is queued.
-use Rattle.std.proofs.Common.{zero, suc, ◌≡◌, ◌≢◌, ℕ, ◌+◌, ◌-◌, ◌≤◌, ◌⊎◌, inl, inr, Bool, true, false, List, [], ◌∷◌, ◌++◌, map, length, Option, Some, None, is_some, refl, ap, sym, subst, ◌∙◌, true≢false, eqb}
+use Rattle.std.proofs.Common.{zero, suc, ◌≡◌, ◌≢◌, ℕ, ◌-◌, ◌⊎◌, inl, inr, Bool, true, false, List, [], ◌∷◌, ◌++◌, map, Option, Some, None, is_some, refl, ap, sym, subst, ◌∙◌, true≢false, eqb}
 use Rattle.std.specs.Prelude.{slice_get, if◌then◌else◌}
 use Rattle.std.proofs.lemmas.Bool.Decides.{eqb_tells}
 use Rattle.eme_types.specs.declared.sample.EncSample.{EncSample}
@@ -9,18 +9,20 @@ use Rattle.eme_types.specs.declared.media.Fragment.{Fragment}
 use Rattle.eme_types.specs.declared.entry.Entry.{Entry}
 use Rattle.eme_types.specs.declared.entry.Entry.TheVariants.{Call, Job, Task, Tick, Feed, Claim, Deliver, GiveUp, Publish, PassClear, WaitForKey, Settle}
 use Rattle.eme_types.specs.declared.call.Event.TheVariants.{WaitingForKey}
-use Rattle.cdm_state.specs.declared.work.Task.{Task as Queued}
-use Rattle.cdm_state.specs.declared.work.Task.TheVariants.{Reject, RequestDone, UpdateDone, CloseDone, RemoveDone, Report, Fire, Resume}
-use Rattle.cdm_state.specs.Machine.{Machine}
-use Rattle.cdm_state.specs.Keys.{pick}
-use Rattle.cdm_state.specs.Tasks.{take_task}
-use Rattle.cdm_state.specs.Tracks.{Picks, TrackState, empty_track, head, has_pick, protect_picked, find_track, change_track, feed_part, feed_parts, add_samples, one_more, set_waiting, resumed, resumed_track}
-use Rattle.cdm_state.specs.World.{World, after_entry, feed_step, fire_encrypted, resumes}
+use Rattle.task_queue.specs.declared.work.Task.{Task as Queued}
+use Rattle.task_queue.specs.declared.work.Task.TheVariants.{Reject, RequestDone, UpdateDone, CloseDone, RemoveDone, Report, Fire, Resume}
+use Rattle.key_sessions.specs.Machine.{Machine}
+use Rattle.key_sessions.specs.Keys.{pick}
+use Rattle.key_sessions.specs.Tasks.{take_task}
+use Rattle.key_statuses.specs.Tracks.{Picks, TrackState, empty_track, head, has_pick, protect_picked, find_track, change_track, feed_part, feed_parts, add_samples, one_more, set_waiting, resumed, resumed_track}
+use Rattle.key_sessions.specs.World.{World, resumes}
+use Rattle.cdm_state.specs.After.{after_entry, feed_step, fire_encrypted}
 use Rattle.cdm_state.specs.History.{world, IsLegal, Allowed, IsOn, LiveOn, MayPublish, MayPassClear, MayWait}
 use Rattle.cdm_state.proofs.Places.{either_place}
 use Rattle.cdm_state.proofs.Histories.{world_more, legal_induction}
 use Rattle.cdm_state.proofs.Live.{live_less, at_within}
-use Rattle.cdm_state.proofs.Usable.{any_usable, picked_any, resume_queued, Carries, carries_same, carries_call, carries_job, carries_tick, carries_more, carries_task}
+use Rattle.cdm_state.specs.Waiting.{resume_queued, WaitsOnlyForKeys}
+use Rattle.cdm_state.proofs.Usable.{held_picked, any_usable, picked_any, Carries, carries_same, carries_call, carries_job, carries_tick, carries_more, carries_task}
 
 some_alone : {A : Type 0} (x y : A) → Some x ≡ Some y → x ≡ y
 some_alone x y e = cc
@@ -67,7 +69,7 @@ stays_asleep ids h e id t u a same up new c = record {
 }
 
 -- the track that is found after one is changed
-change_found : (ts : List TrackState) (track : ℕ) (f : TrackState → TrackState) → ((s : TrackState) → (f s).id ≡ s.id) → (id : ℕ) (u : TrackState) → find_track (change_track ts track f) id ≡ Some u → (t : TrackState) × (find_track ts id ≡ Some t) × (((track ≡ id) × (u ≡ f t)) ⊎ (u ≡ t))
+pub change_found : (ts : List TrackState) (track : ℕ) (f : TrackState → TrackState) → ((s : TrackState) → (f s).id ≡ s.id) → (id : ℕ) (u : TrackState) → find_track (change_track ts track f) id ≡ Some u → (t : TrackState) × (find_track ts id ≡ Some t) × (((track ≡ id) × (u ≡ f t)) ⊎ (u ≡ t))
 change_found [] track f same id u e = absurd cc
 change_found (s ∷ ts) track f same id u e = elim (eqb_tells s.id track) [
   | inl p ↦ elim (eqb_tells s.id id) [
@@ -81,7 +83,7 @@ change_found (s ∷ ts) track f same id u e = elim (eqb_tells s.id track) [
 ]
 
 -- and after all are
-map_found : (f : TrackState → TrackState) → ((s : TrackState) → (f s).id ≡ s.id) → (ts : List TrackState) (id : ℕ) (u : TrackState) → find_track (map f ts) id ≡ Some u → (t : TrackState) × (find_track ts id ≡ Some t) × (u ≡ f t)
+pub map_found : (f : TrackState → TrackState) → ((s : TrackState) → (f s).id ≡ s.id) → (ts : List TrackState) (id : ℕ) (u : TrackState) → find_track (map f ts) id ≡ Some u → (t : TrackState) × (find_track ts id ≡ Some t) × (u ≡ f t)
 map_found f same [] id u e = absurd cc
 map_found f same (s ∷ ts) id u e = elim (eqb_tells s.id id) [
   | inl q ↦ (let k : eqb (f s).id id ≡ true = ap (λ (n : ℕ). eqb n id) (same s) ∙ q.0 in let here : Some (f s) ≡ Some u = rw k at e in (s, rw q.0 refl, sym (some_alone (f s) u here)))
@@ -89,10 +91,10 @@ map_found f same (s ∷ ts) id u e = elim (eqb_tells s.id id) [
 ]
 
 -- a track that was fed more
-record Fed (t u : TrackState) : Type 0 where
-  waiting : u.waiting ≡ t.waiting
-  published : u.published ≡ t.published
-  head_ : (s : EncSample) → head t ≡ Some s → head u ≡ Some s
+pub record Fed (t u : TrackState) : Type 0 where
+  pub waiting : u.waiting ≡ t.waiting
+  pub published : u.published ≡ t.published
+  pub head_ : (s : EncSample) → head t ≡ Some s → head u ≡ Some s
 
 fed_none : (t : TrackState) → Fed t t
 fed_none t = record { waiting = refl; published = refl; head_ = λ s e. e }
@@ -119,7 +121,7 @@ parts_found ts (p ∷ parts) id u e =
     ] in
     (q.0, q.1, fed_then q.0 r.0 u one r.2)
 
-feed_found : (w : World) (f : Option Fragment) (id : ℕ) (u : TrackState) → find_track (feed_step w f).tracks id ≡ Some u → (t : TrackState) × (find_track w.tracks id ≡ Some t) × Fed t u
+pub feed_found : (w : World) (f : Option Fragment) (id : ℕ) (u : TrackState) → find_track (feed_step w f).tracks id ≡ Some u → (t : TrackState) × (find_track w.tracks id ≡ Some t) × Fed t u
 feed_found w None id u e = (u, e, fed_none u)
 feed_found w (Some f) id u e = parts_found w.tracks f.parts id u e
 
@@ -127,7 +129,7 @@ carries_feed : (w : World) (f : Option Fragment) → Carries w.machine.tasks w.m
 carries_feed w None = carries_same w.machine
 carries_feed w (Some f) = carries_more w.machine (map fire_encrypted f.inits)
 
-same_track : (ts : List TrackState) (a b : ℕ) (s t : TrackState) → a ≡ b → find_track ts a ≡ Some s → find_track ts b ≡ Some t → s ≡ t
+pub same_track : (ts : List TrackState) (a b : ℕ) (s t : TrackState) → a ≡ b → find_track ts a ≡ Some s → find_track ts b ≡ Some t → s ≡ t
 same_track ts a b s t same at there = some_alone s t (sym at ∙ (ap (λ (n : ℕ). find_track ts n) same ∙ there))
 
 -- nothing of a track that waits is put out
@@ -270,3 +272,13 @@ none_asleep ids id t e waits = absurd (true≢false (sym waits ∙ empty_awake i
 -- so it is after each legal history
 pub all_asleep : (ids : List ℕ) (h : List Entry) → IsLegal ids h → AllAsleep ids h
 all_asleep ids h legal = legal_induction ids (AllAsleep ids) (none_asleep ids) (λ g e l may all id u found waits. asleep_after ids g e id u may all (subst (λ (w : World). find_track w.tracks id ≡ Some u) (world_more ids g e) found) waits) h legal
+
+pub waits_only : WaitsOnlyForKeys
+waits_only ids h id t legal found waits = (let a = all_asleep ids h legal id t found waits in record {
+  sample = a.sample;
+  fed = a.fed;
+  protect = a.protect;
+  protected = a.protected;
+  free = a.free;
+  woken = λ session key holds. a.queued (held_picked (world ids h).machine session a.protect.kid key holds);
+})

@@ -5,33 +5,40 @@ use Rattle.std.specs.List.{fold}
 use Rattle.std.proofs.lemmas.List.Sums.{sum_by-append}
 use Rattle.eme_types.specs.declared.call.Effect.{Effect}
 use Rattle.eme_types.specs.declared.media.Fragment.{Fragment}
+use Rattle.eme_types.specs.declared.media.InitData.{InitData}
 use Rattle.eme_types.specs.declared.entry.Entry.{Entry}
 use Rattle.eme_types.specs.declared.entry.Entry.TheVariants.{Call, Job, Task, Tick, Feed, Claim, Deliver, GiveUp, Publish, PassClear, WaitForKey, Settle}
-use Rattle.cdm_state.specs.Machine.{Machine}
-use Rattle.cdm_state.specs.declared.work.Task.TheVariants.{Fire}
+use Rattle.key_sessions.specs.Machine.{Machine}
+use Rattle.task_queue.specs.declared.work.Task.TheVariants.{Fire}
 use Rattle.eme_types.specs.declared.call.Event.TheVariants.{WaitingForKey}
-use Rattle.cdm_state.specs.Steps.{Done, unmoved}
-use Rattle.cdm_state.specs.Calls.{after_call}
-use Rattle.cdm_state.specs.Jobs.{after_job}
-use Rattle.cdm_state.specs.Tasks.{after_task, after_tick}
-use Rattle.cdm_state.specs.World.{World, empty_world, step, after_entry, effects_of, feed_step, wait_step, fire_encrypted}
+use Rattle.key_sessions.specs.Steps.{Done, unmoved}
+use Rattle.key_sessions.specs.Calls.{after_call}
+use Rattle.key_sessions.specs.Jobs.{after_job}
+use Rattle.key_sessions.specs.Tasks.{after_task, after_tick}
+use Rattle.key_sessions.specs.World.{World, empty_world}
+use Rattle.cdm_state.specs.After.{step, after_entry, effects_of, feed_step, wait_step, fire_encrypted}
 use Rattle.std.proofs.lemmas.Bool.Decides.{eqb_tells}
 use Rattle.std.proofs.Math.Nat.{eq-or-lt_of_le}
 use Rattle.cdm_state.specs.History.{world, IsLegal, Allowed}
-use Rattle.cdm_state.specs.Settlements.{settles, settling, settlements, settlements_from, is_call, calls_in}
-use Rattle.cdm_state.specs.Law.{SettlesAtMostOnce, SettlesEachOnce}
-use Rattle.cdm_state.proofs.Owed.{one_if, one_same, one_other, one_within, jobs_owe, tasks_owe, pending, IsOwed, times, tasks_more, events_owe}
-use Rattle.cdm_state.proofs.OwedSteps.{Asked, Steady, asked_call, steady_job, steady_front, steady_tick, steady_same}
+use Rattle.cdm_state.specs.Settlements.{settling, settlements, settlements_from, is_call, calls_in}
+use Rattle.cdm_state.specs.Law.{SettlesAtMostOnce, SettlesEachOnce, OwesEachOnce}
+use Rattle.key_sessions.specs.Owed.{settles, one_if, jobs_owe, tasks_owe, pending, IsOwed, times_settled, Asked, Steady}
+use Rattle.key_sessions.proofs.Owed.{one_same, one_other, one_within, tasks_more}
+use Rattle.key_sessions.proofs.OwedSteps.{asked_call, steady_job, steady_front, steady_tick, steady_same}
 use Rattle.cdm_state.proofs.Histories.{world_more, legal_induction}
 
-length-settling : (p : ℕ) (e : Entry) (xs : List Effect) → length (settling p e xs) ≡ times p xs
+events_owe : (p : ℕ) (inits : List InitData) → tasks_owe p (map fire_encrypted inits) ≡ 0
+events_owe p [] = refl
+events_owe p (x ∷ inits) = omega (arith, events_owe p inits)
+
+length-settling : (p : ℕ) (e : Entry) (xs : List Effect) → length (settling p e xs) ≡ times_settled p xs
 length-settling p e [] = refl
 length-settling p e (x ∷ xs) = go (settles p x) (length-settling p e xs) where
-  go : (b : Bool) → length (settling p e xs) ≡ times p xs → length (if b then e ∷ settling p e xs else settling p e xs) ≡ (if b then 1 + times p xs else times p xs)
+  go : (b : Bool) → length (settling p e xs) ≡ times_settled p xs → length (if b then e ∷ settling p e xs else settling p e xs) ≡ (if b then 1 + times_settled p xs else times_settled p xs)
   go true rest = omega (arith, rest)
   go false rest = rest
 
-settlements_more : (w : World) (p : ℕ) (h : List Entry) (e : Entry) → length (settlements_from w p (h ++ e ∷ [])) ≡ length (settlements_from w p h) + times p (effects_of (fold after_entry w h) e)
+settlements_more : (w : World) (p : ℕ) (h : List Entry) (e : Entry) → length (settlements_from w p (h ++ e ∷ [])) ≡ length (settlements_from w p h) + times_settled p (effects_of (fold after_entry w h) e)
 settlements_more w p [] e = length-append (settling p e (effects_of w e)) [] ∙ omega (arith, length-settling p e (effects_of w e))
 settlements_more w p (x ∷ h) e = length-append (settling p x (effects_of w x)) (settlements_from (after_entry w x) p (h ++ e ∷ [])) ∙ omega (arith, length-append (settling p x (effects_of w x)) (settlements_from (after_entry w x) p h), settlements_more (after_entry w x) p h e)
 
@@ -49,7 +56,7 @@ record Known (ids : List ℕ) (h : List Entry) : Type 0 where
 calls_more : (h : List Entry) (e : Entry) → calls_in (h ++ e ∷ []) ≡ calls_in h + is_call e
 calls_more h e = sum_by-append is_call h (e ∷ []) ∙ omega arith
 
-settled_more : (ids : List ℕ) (h : List Entry) (e : Entry) (p : ℕ) → length (settlements ids (h ++ e ∷ []) p) ≡ length (settlements ids h p) + times p (effects_of (world ids h) e)
+settled_more : (ids : List ℕ) (h : List Entry) (e : Entry) (p : ℕ) → length (settlements ids (h ++ e ∷ []) p) ≡ length (settlements ids h p) + times_settled p (effects_of (world ids h) e)
 unfolding settlements world
 settled_more ids h e p = settlements_more (empty_world ids) p h e
 
@@ -61,7 +68,7 @@ known_steady ids h e d none machine effects s k =
       promises = ap (λ (x : Machine). length x.promises) m ∙ (s.more ∙ (k.promises ∙ sym c));
       owed = subst IsOwed (sym m) s.owed;
       settled = λ p.
-          let t : times p (effects_of (world ids h) e) ≡ times p d.effects = ap (λ (xs : List Effect). times p xs) effects in
+          let t : times_settled p (effects_of (world ids h) e) ≡ times_settled p d.effects = ap (λ (xs : List Effect). times_settled p xs) effects in
           let q : pending (world ids (h ++ e ∷ [])).machine.promises p ≡ pending d.machine.promises p = ap (λ (x : Machine). pending x.promises p) m in
           let f : made (calls_in (h ++ e ∷ [])) p ≡ made (calls_in h) p = ap (λ n. made n p) c in
           omega (arith, settled_more ids h e p, t, q, f, s.balance p, k.settled p);
@@ -76,7 +83,7 @@ known_asked ids h e d one machine effects s k =
       promises = ap (λ (x : Machine). length x.promises) m ∙ (s.more ∙ (l ∙ sym c));
       owed = subst IsOwed (sym m) (s.owed k.owed);
       settled = λ p.
-          let t : times p (effects_of (world ids h) e) ≡ times p d.effects = ap (λ (xs : List Effect). times p xs) effects in
+          let t : times_settled p (effects_of (world ids h) e) ≡ times_settled p d.effects = ap (λ (xs : List Effect). times_settled p xs) effects in
           let q : pending (world ids (h ++ e ∷ [])).machine.promises p ≡ pending d.machine.promises p = ap (λ (x : Machine). pending x.promises p) m in
           let f : made (calls_in (h ++ e ∷ [])) p ≡ made (suc (calls_in h)) p = ap (λ n. made n p) c in
           let o : one_if (length (world ids h).machine.promises + 1) p ≡ one_if (suc (calls_in h)) p = ap (λ n. one_if n p) l in
@@ -99,7 +106,7 @@ waiting_steady w track owed = record {
 }
 
 known_more : (ids : List ℕ) (h : List Entry) (e : Entry) → IsLegal ids h → Allowed ids h e → Known ids h → Known ids (h ++ e ∷ [])
-known_more ids h (Call lane line call) legal allowed k = known_asked ids h (Call lane line call) (after_call call (world ids h).machine) refl refl refl (asked_call (world ids h).machine call allowed) k
+known_more ids h (Call lane line call) legal allowed k = known_asked ids h (Call lane line call) (after_call call (world ids h).machine) refl refl refl (asked_call (world ids h).machine call) k
 known_more ids h Job legal allowed k = known_steady ids h Job (after_job (world ids h).machine) refl refl refl (steady_job (world ids h).machine k.owed) k
 known_more ids h Task legal allowed k = known_steady ids h Task (after_task (world ids h).machine) refl refl refl (steady_front (world ids h).machine k.owed) k
 known_more ids h (Tick line moment) legal allowed k = known_steady ids h (Tick line moment) (after_tick moment (world ids h).machine) refl refl refl (steady_tick (world ids h).machine moment k.owed) k
@@ -158,3 +165,6 @@ settles_each_once ids h p legal rest one le =
     let k = known ids h legal in
     let z = none_owed (world ids h).machine p k.owed rest.jobs rest.tasks in
     omega (arith, k.settled p, z, made_one (calls_in h) p one le)
+
+pub owes_each_once : OwesEachOnce
+owes_each_once ids h legal = (let k = known ids h legal in k.owed)

@@ -8,19 +8,19 @@ use Rattle.eme_types.specs.declared.media.Fragment.{Fragment}
 use Rattle.eme_types.specs.declared.entry.Entry.{Entry}
 use Rattle.eme_types.specs.declared.entry.Entry.TheVariants.{Call, Job, Task, Tick, Feed, Claim, Deliver, GiveUp, Publish, PassClear, WaitForKey, Settle}
 use Rattle.eme_types.specs.Fed.{is_among, are_distinct}
-use Rattle.cdm_state.specs.declared.track.Track.{Track}
-use Rattle.cdm_state.specs.Tracks.{Picks, TrackState, empty_track, head, has_pick, find_track, change_track, feed_part, feed_parts, add_samples, one_more, set_waiting, resumed}
-use Rattle.cdm_state.specs.TrackOf.{track_of}
-use Rattle.cdm_state.specs.Keys.{pick}
-use Rattle.cdm_state.specs.World.{World, empty_world, after_entry, feed_step, resumes}
+use Rattle.key_claims.specs.TracksState.{FedTrack, track_of}
+use Rattle.key_statuses.specs.Tracks.{Picks, TrackState, empty_track, head, has_pick, find_track, change_track, feed_part, feed_parts, add_samples, one_more, set_waiting, resumed}
+use Rattle.key_sessions.specs.Keys.{pick}
+use Rattle.key_sessions.specs.World.{World, empty_world, resumes}
+use Rattle.cdm_state.specs.After.{after_entry, feed_step}
 use Rattle.cdm_state.specs.History.{world}
-use Rattle.cdm_state.proofs.TrackSteps.{same_yes}
+use Rattle.cdm_state.proofs.TrackLists.{same_yes}
 use Rattle.cdm_state.proofs.TrackLists.{track_none}
 
 abbrev pub state_id : TrackState → ℕ
 state_id s = s.id
 
-abbrev pub id_of : Track → ℕ
+abbrev pub id_of : FedTrack → ℕ
 id_of t = t.id
 
 pub or_right : (b : Bool) → (b || true) ≡ true
@@ -90,17 +90,17 @@ pub world_ids : (ids : List ℕ) (h : List Entry) → map state_id (world ids h)
 unfolding world
 world_ids ids h = from_ids (empty_world ids) h ∙ empty_ids ids
 
-pub states_ids : (ts : List Track) → map state_id (map track_of ts) ≡ map id_of ts
+pub states_ids : (ts : List FedTrack) → map state_id (map track_of ts) ≡ map id_of ts
 states_ids [] = refl
 states_ids (t ∷ ts) = ap (λ (ns : List ℕ). t.id ∷ ns) (states_ids ts)
 
-pub among_at : (ts : List Track) (i id : ℕ) (d : Track) → i < length ts → (get_or ts i d).id ≡ id → is_among (map id_of ts) id ≡ true
+pub among_at : (ts : List FedTrack) (i id : ℕ) (d : FedTrack) → i < length ts → (get_or ts i d).id ≡ id → is_among (map id_of ts) id ≡ true
 among_at [] i id d lt same = absurd (omega arith)
 among_at (t ∷ ts) zero id d lt same = rw (same_yes t.id id same) refl
 among_at (t ∷ ts) (suc i) id d lt same = rw (among_at ts i id d (omega arith) same) (or_right (eqb t.id id))
 
 -- no track before it has the id of the track at a place
-pub first_here : (ts : List Track) (i id : ℕ) (d : Track) → are_distinct (map id_of ts) ≡ true → i < length ts → (get_or ts i d).id ≡ id → find_track (map track_of (take i ts)) id ≡ None
+pub first_here : (ts : List FedTrack) (i id : ℕ) (d : FedTrack) → are_distinct (map id_of ts) ≡ true → i < length ts → (get_or ts i d).id ≡ id → find_track (map track_of (take i ts)) id ≡ None
 first_here [] i id d distinct lt same = absurd (omega arith)
 first_here (t ∷ ts) zero id d distinct lt same = refl
 first_here (t ∷ ts) (suc i) id d distinct lt same =
@@ -111,7 +111,7 @@ first_here (t ∷ ts) (suc i) id d distinct lt same =
     ]
 
 -- the track at a place, by its id
-pub find_here : (ts : List Track) (i id : ℕ) (d : Track) → i < length ts → find_track (map track_of (take i ts)) id ≡ None → (get_or ts i d).id ≡ id → find_track (map track_of ts) id ≡ Some (track_of (get_or ts i d))
+pub find_here : (ts : List FedTrack) (i id : ℕ) (d : FedTrack) → i < length ts → find_track (map track_of (take i ts)) id ≡ None → (get_or ts i d).id ≡ id → find_track (map track_of ts) id ≡ Some (track_of (get_or ts i d))
 find_here [] i id d lt none same = absurd (omega arith)
 find_here (t ∷ ts) zero id d lt none same = rw (same_yes t.id id same) refl
 find_here (t ∷ ts) (suc i) id d lt none same =
@@ -119,13 +119,13 @@ find_here (t ∷ ts) (suc i) id d lt none same =
     rw k.0 (find_here ts i id d (omega arith) k.1 same)
 
 -- the place of the track that an id finds
-pub record FoundAt (ts : List Track) (id : ℕ) (s : TrackState) : Type 0 where
+pub record FoundAt (ts : List FedTrack) (id : ℕ) (s : TrackState) : Type 0 where
   pub place : ℕ
   pub within : place < length ts
-  pub is : (d : Track) → track_of (get_or ts place d) ≡ s
+  pub is : (d : FedTrack) → track_of (get_or ts place d) ≡ s
   pub same : s.id ≡ id
 
-pub found_at : (ts : List Track) (id : ℕ) (s : TrackState) → find_track (map track_of ts) id ≡ Some s → FoundAt ts id s
+pub found_at : (ts : List FedTrack) (id : ℕ) (s : TrackState) → find_track (map track_of ts) id ≡ Some s → FoundAt ts id s
 found_at [] id s e = absurd cc
 found_at (t ∷ ts) id s e = elim (eqb_tells t.id id) [
   | inl p ↦ (let here : Some (track_of t) ≡ Some s = rw p.0 at e in let is : track_of t ≡ s = some_alone _ _ here in record { place = 0; within = omega arith; is = λ d. is; same = ap (λ (x : TrackState). x.id) (sym is) ∙ p.1 })

@@ -1,5 +1,5 @@
 -- Which key ids come to have a pick: only an update gives one, and then it queues what looks at the tracks that wait.
-use Rattle.std.proofs.Common.{zero, suc, ◌≡◌, ◌≢◌, ℕ, ◌+◌, ◌<◌, ◌≤◌, ◌⊎◌, inl, inr, Bool, true, false, ◌&&◌, ◌||◌, not, List, [], ◌∷◌, ◌++◌, map, length, Option, Some, None, is_some, Result, Ok, Err, refl, ap, sym, subst, ◌∙◌, arith}
+use Rattle.std.proofs.Common.{zero, suc, ◌≡◌, ℕ, ◌+◌, ◌<◌, ◌≤◌, ◌⊎◌, inl, inr, Bool, true, false, ◌&&◌, ◌||◌, not, List, [], ◌∷◌, ◌++◌, map, length, Option, Some, None, is_some, Result, Ok, Err, refl, ap, sym, subst, ◌∙◌, arith}
 use Rattle.std.specs.Prelude.{slice_get, if◌then◌else◌, nat_lt, codes}
 use Rattle.std.specs.Str.{bytes_eq}
 use Rattle.std.proofs.lemmas.Bool.{ltb-true}
@@ -22,19 +22,21 @@ use Rattle.clearkey_json.specs.KeySet.{key_set}
 use Rattle.clearkey_json.specs.Request.{request_text}
 use Rattle.init_data.specs.declared.fault.InitFault.{InitFault}
 use Rattle.init_data.specs.InitData.{kids_of}
-use Rattle.cdm_state.specs.declared.table.KnownKey.{KnownKey}
-use Rattle.cdm_state.specs.declared.work.Job.{Job}
-use Rattle.cdm_state.specs.declared.work.Job.TheVariants.{Request as RequestJob, Update as UpdateJob, Close as CloseJob, Remove as RemoveJob}
-use Rattle.cdm_state.specs.declared.work.Task.{Task}
-use Rattle.cdm_state.specs.declared.work.Task.TheVariants.{Reject, RequestDone, UpdateDone, CloseDone, RemoveDone, Report, Fire, Resume}
-use Rattle.cdm_state.specs.Table.{key_in, grant_all, released}
-use Rattle.cdm_state.specs.Statuses.{held_status, is_usable, status_of, comes_before, insert_status, statuses_from, statuses, same_key, same_table, same_status, same_statuses, is_changed}
-use Rattle.cdm_state.specs.Machine.{SessionState, Machine, new_session, session_at, change_at, change_session}
-use Rattle.cdm_state.specs.Keys.{usable_key, key_of, held_key, or_else, pick_from, pick}
-use Rattle.cdm_state.specs.Steps.{Done, unmoved, with_session, queue_task, statuses_now, update_statuses, settle_in}
-use Rattle.cdm_state.specs.Calls.{answer_now, answer_later, create_call, add_session, find_label, is_ending, request_on, request_started, request_kind, start_request, update_on, update_or, or_empty, state_fault, close_on, start_closing, remove_on, remove_or, after_call}
-use Rattle.cdm_state.specs.Jobs.{request_job, request_error, grant_set, with_set, is_changed_by, found, update_job, take_job, cleared, without_keys}
-use Rattle.cdm_state.specs.Tasks.{run_task, take_task, is_closed, request_done, next_id, made_callable, reports_from, after_tick}
+use Rattle.key_statuses.specs.declared.table.KnownKey.{KnownKey}
+use Rattle.task_queue.specs.declared.work.Job.{Job}
+use Rattle.task_queue.specs.declared.work.Job.TheVariants.{Request as RequestJob, Update as UpdateJob, Close as CloseJob, Remove as RemoveJob}
+use Rattle.task_queue.specs.declared.work.Task.{Task}
+use Rattle.task_queue.specs.declared.work.Task.TheVariants.{Reject, RequestDone, UpdateDone, CloseDone, RemoveDone, Report, Fire, Resume}
+use Rattle.key_statuses.specs.Table.{key_in, grant_all, released}
+use Rattle.key_statuses.specs.Statuses.{held_status, is_usable, status_of, comes_before, insert_status, statuses_from, statuses, same_key, same_table, same_status, same_statuses, is_changed}
+use Rattle.key_sessions.specs.Machine.{SessionState, Machine, new_session, session_at, change_at, change_session}
+use Rattle.key_sessions.specs.Keys.{usable_key, key_of, held_key, or_else, pick_from, pick}
+use Rattle.key_sessions.specs.Steps.{Done, unmoved, with_session, queue_task, statuses_now, update_statuses}
+use Rattle.key_system_access.specs.Configs.{configs_of}
+use Rattle.key_sessions.specs.Calls.{access_result, answer_now, answer_later, create_call, add_session, find_label, is_ending, request_on, request_started, request_kind, start_request, update_on, update_or, or_empty, state_fault, close_on, start_closing, remove_on, remove_or, after_call}
+use Rattle.key_sessions.specs.Jobs.{request_job, request_error, grant_set, with_set, is_changed_by, found, update_job, take_job, cleared, without_keys}
+use Rattle.key_sessions.specs.Tasks.{run_task, is_closed, next_id, made_callable, reports_from, after_tick}
+use Rattle.cdm_state.specs.Waiting.{will_resume, resume_queued}
 use Rattle.cdm_state.proofs.TrackIds.{and_both}
 
 or_cases : (a b : Bool) → (a || b) ≡ true → (a ≡ true) ⊎ (b ≡ true)
@@ -278,20 +280,6 @@ change_seen closed old new before after kid e = go (is_used closed (is_usable af
 
 -- What looks at the tracks that wait: a `Resume`, and an update that will queue one.
 
-abbrev pub will_resume : Task → Bool
-will_resume (Reject p error) = false
-will_resume (RequestDone n kids p) = false
-will_resume (UpdateDone n changed p) = changed
-will_resume (CloseDone n p) = false
-will_resume (RemoveDone n p) = false
-will_resume (Report n) = false
-will_resume (Fire event) = false
-will_resume Resume = true
-
-abbrev pub resume_queued : List Task → Bool
-resume_queued [] = false
-resume_queued (task ∷ tasks) = will_resume task || resume_queued tasks
-
 pub queued_left : (ts us : List Task) → resume_queued ts ≡ true → resume_queued (ts ++ us) ≡ true
 queued_left [] us e = absurd cc
 queued_left (t ∷ ts) us e =
@@ -358,7 +346,7 @@ carries_remove m None = carries_now m m.sessions (Rejected UnknownLabel) (all_sa
 carries_remove m (Some (n, s)) = carries_remove_or m n (state_fault s)
 
 pub carries_call : (m : Machine) (call : AppCall) → Carries m.tasks m (after_call call m).machine
-carries_call m (Access name list) = carries_same m
+carries_call m (Access name list) = carries_now m m.sessions (access_result name (configs_of list)) (all_same m)
 carries_call m (Create label kind) = carries_create m label kind
 carries_call m (Request label kind init) = carries_request m kind init (find_label m label)
 carries_call m (Update label response) = carries_update m response (find_label m label)

@@ -3,14 +3,14 @@ use Rattle.std.specs.Prelude.{ℕ, ◌≡◌, ◌≢◌, ◌+◌, ◌<◌, ◌�
 use Rattle.eme_types.specs.WellFormed.{is_well_formed}
 use Rattle.eme_types.specs.declared.entry.Entry.TheVariants.{Claim, Deliver}
 use Rattle.eme_types.specs.declared.entry.Verdict.TheVariants.{Taken as TakenVerdict, Stale as StaleVerdict}
-use Rattle.cdm_state.specs.declared.claim.Delivered.{Delivered}
-use Rattle.cdm_state.specs.declared.claim.Delivered.TheVariants.{Taken, Stale}
-use Rattle.cdm_state.specs.declared.claim.Claim.{Claim as Held}
+use Rattle.key_claims.specs.declared.claim.Delivered.{Delivered}
+use Rattle.key_claims.specs.declared.claim.Delivered.TheVariants.{Taken, Stale}
+use Rattle.key_claims.specs.declared.claim.Claim.{Claim as Held}
 use Rattle.cdm_state.specs.declared.cdm.SettleFault.{SettleFault}
 use Rattle.cdm_state.specs.declared.cdm.SettleFault.TheVariants.{Job, Task, Track, OutOfMemory}
-use Rattle.cdm_state.specs.Keys.{held_key, pick}
-use Rattle.cdm_state.specs.Tracks.{TrackState, TrackAtRest}
-use Rattle.cdm_state.specs.World.{World}
+use Rattle.key_sessions.specs.Keys.{held_key, pick}
+use Rattle.key_statuses.specs.Tracks.{TrackState, TrackAtRest}
+use Rattle.key_sessions.specs.World.{World}
 use Rattle.cdm_state.specs.Output.{fed_sample}
 use Rattle.cdm_state.specs.History.{world, IsAt, Undelivered, Live, AtRest, MayClaim}
 use Rattle.cdm_state.specs.Run.{Run, with_entry}

@@ -9,10 +9,10 @@ use Rattle.eme_types.specs.declared.entry.Entry.{Entry}
 use Rattle.eme_types.specs.declared.entry.Entry.TheVariants.{Call, Job, Task, Tick, Feed, Claim, Deliver, GiveUp, Publish, PassClear, WaitForKey, Settle}
 use Rattle.eme_types.specs.declared.entry.Verdict.TheVariants.{Taken}
 use Rattle.eme_types.specs.Fed.{are_known, are_well_formed, fragment_samples, fragment_bytes, max_samples, max_bytes}
-use Rattle.cdm_state.specs.Keys.{held_key, pick}
-use Rattle.cdm_state.specs.Calls.{IsBuilt}
-use Rattle.cdm_state.specs.Tracks.{TrackState, TrackAtRest, find_track, head}
-use Rattle.cdm_state.specs.World.{World, empty_world, after_entry}
+use Rattle.key_sessions.specs.Keys.{held_key, pick}
+use Rattle.key_statuses.specs.Tracks.{TrackState, TrackAtRest, find_track, head}
+use Rattle.key_sessions.specs.World.{World, empty_world}
+use Rattle.cdm_state.specs.After.{after_entry}
 
 -- the state after a history of a core with these tracks
 unfoldable pub world : List ℕ → List Entry → World
@@ -216,7 +216,7 @@ MayFeedNext ids h (Some f) = MayFeed ids h f
 
 -- what may come after a history
 abbrev pub Allowed : List ℕ → List Entry → Entry → Type 0
-Allowed ids h (Call lane line call) = IsBuilt call
+Allowed ids h (Call lane line call) = Unit {0}
 Allowed ids h Job = (world ids h).machine.jobs ≢ []
 Allowed ids h Task = (world ids h).machine.tasks ≢ []
 Allowed ids h (Tick line moment) = (world ids h).machine.moment ≤ moment

@@ -1,7 +1,9 @@
 -- Laws of histories.
-use Rattle.std.specs.Prelude.{ℕ, ◌≡◌, ◌≤◌, List, length}
+use Rattle.std.specs.Prelude.{ℕ, ◌≡◌, ◌≤◌, ◌<◌, ◌+◌, List, length, Some}
 use Rattle.eme_types.specs.declared.entry.Entry.{Entry}
-use Rattle.cdm_state.specs.History.{world, IsLegal, AtRest}
+use Rattle.key_sessions.specs.Owed.{IsOwed}
+use Rattle.key_statuses.specs.Tracks.{TrackState, find_track}
+use Rattle.cdm_state.specs.History.{world, IsLegal, AtRest, LiveOn}
 use Rattle.cdm_state.specs.Moment.{last_moment}
 use Rattle.cdm_state.specs.Settlements.{settlements, calls_in}
 
@@ -16,3 +18,15 @@ SettlesEachOnce = (ids : List ℕ) (h : List Entry) (p : ℕ) → IsLegal ids h 
 -- the moment after a history is that of its last tick
 abbrev pub MomentIsOfLastTick : Type 0
 MomentIsOfLastTick = (ids : List ℕ) (h : List Entry) → (world ids h).machine.moment ≡ last_moment h
+
+-- each pending promise stands in exactly one queued job or task, and a settled one in none
+abbrev pub OwesEachOnce : Type 0
+OwesEachOnce = (ids : List ℕ) (h : List Entry) → IsLegal ids h → IsOwed (world ids h).machine
+
+-- a sample has at most one live claim
+abbrev pub ClaimsEachOnce : Type 0
+ClaimsEachOnce = (ids : List ℕ) (h : List Entry) (track index p q : ℕ) → IsLegal ids h → LiveOn ids h p track index → LiveOn ids h q track index → p ≡ q
+
+-- the index of a live claim is at least the published count of its track and below it plus 16
+abbrev pub ClaimsInTheWindow : Type 0
+ClaimsInTheWindow = (ids : List ℕ) (h : List Entry) (track index p : ℕ) (t : TrackState) → IsLegal ids h → LiveOn ids h p track index → find_track (world ids h).tracks track ≡ Some t → (t.published ≤ index) × (index < t.published + 16)

@@ -1,11 +1,12 @@
 -- What each entry of a history did, and which of them settle a promise.
-use Rattle.std.specs.Prelude.{ℕ, ◌==◌, Bool, false, if◌then◌else◌, List, [], ◌∷◌, ◌++◌}
+use Rattle.std.specs.Prelude.{ℕ, if◌then◌else◌, List, [], ◌∷◌, ◌++◌}
 use Rattle.std.specs.List.{sum_by}
 use Rattle.eme_types.specs.declared.call.Effect.{Effect}
-use Rattle.eme_types.specs.declared.call.Effect.TheVariants.{Statuses, Closed, Promise, Fired}
 use Rattle.eme_types.specs.declared.entry.Entry.{Entry}
 use Rattle.eme_types.specs.declared.entry.Entry.TheVariants.{Call, Job, Task, Tick, Feed, Claim, Deliver, GiveUp, Publish, PassClear, WaitForKey, Settle}
-use Rattle.cdm_state.specs.World.{World, empty_world, after_entry, effects_of}
+use Rattle.key_sessions.specs.Owed.{settles}
+use Rattle.key_sessions.specs.World.{World, empty_world}
+use Rattle.cdm_state.specs.After.{after_entry, effects_of}
 
 -- the effects of each of these entries, from a world on
 abbrev pub effects_from : World → List Entry → List (List Effect)
@@ -15,12 +16,6 @@ effects_from w (e ∷ es) = effects_of w e ∷ effects_from (after_entry w e) es
 -- the effects of each entry of a history
 unfoldable pub effects_in : List ℕ → List Entry → List (List Effect)
 effects_in ids h = effects_from (empty_world ids) h
-
-abbrev pub settles : ℕ → Effect → Bool
-settles p (Statuses n list) = false
-settles p (Closed n) = false
-settles p (Promise q how) = q == p
-settles p (Fired event) = false
 
 -- the entry once for each of these effects that settles the promise
 abbrev pub settling : ℕ → Entry → List Effect → List Entry

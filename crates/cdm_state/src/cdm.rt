@@ -1,38 +1,32 @@
 // The history, and the state after it.
-ghost use Rattle.std.specs.Prelude.{◌≡◌, ◌<◌, ◌≤◌, ◌+◌, ◌-◌, ◌≢◌, ◌∷◌, ◌++◌, [], OnOk, OnErr, IfErr, IsErrOf, IfOk, ◌↔◌, IsTrue, MatchOption, Some, None, ℕ, length, ◌^◌};
-ghost use Rattle.std.specs.Prelude.{slice_index_or, slice_get, false, map, List, ◌⊎◌};
+ghost use Rattle.std.specs.Prelude.{◌≡◌, ◌<◌, ◌≤◌, ◌+◌, ◌-◌, [], OnOk, OnErr, IfErr, IsErrOf, IfOk, ◌↔◌, IsTrue, MatchOption, Some, None, ℕ, List, length};
+ghost use Rattle.std.specs.Prelude.{slice_get, map, ◌⊎◌, if◌then◌else◌};
 ghost use Rattle.eme_types.specs.Fed.{are_distinct, max_tracks};
 ghost use Rattle.eme_types.specs.declared.entry.Entry.TheVariants.{Call as CallEntry, Job as JobEntry, Task as TaskEntry, Tick, Feed, GiveUp, Publish, PassClear, WaitForKey, Settle};
 ghost use Rattle.sample_crypt.specs.Decryption.{decryption};
-ghost use Rattle.cdm_state.specs.Calls.{IsBuilt};
-ghost use Rattle.cdm_state.specs.declared.track.Track.{Track};
-ghost use Rattle.cdm_state.specs.TrackOf.{AreRoomy, left_of, all_left, track_of};
-ghost use Rattle.cdm_state.specs.Feeds.{Grown, AreReadyFor};
-ghost use Rattle.cdm_state.specs.Moves.{GivesOut, Sleeps, AreEmpty, ChangedAt};
-ghost use Rattle.cdm_state.specs.Tracks.{one_more, set_waiting as waits_now, find_track, is_waiting};
+ghost use Rattle.key_statuses.specs.Tracks.{find_track, is_waiting};
 ghost use Rattle.cdm_state.specs.History.{world, IsLegal, AtRest, MayFeedNext, MayClaim, MayPublish, MayPassClear, MayWait};
 ghost use Rattle.cdm_state.specs.Settlements.{effects_in, calls_in};
 ghost use Rattle.cdm_state.specs.Output.{out};
 ghost use Rattle.cdm_state.specs.Contract.{IsOpen, Claims, ComesFirst, Delivers, HasNotSettled};
-ghost use Rattle.cdm_state.specs.Shown.{SameOut, OneOut, output_from, shown_of};
 ghost use Rattle.cdm_state.specs.Run.{Run, with_entry};
+ghost use Rattle.key_sessions.specs.Keys.{pick};
+ghost use Rattle.key_claims.specs.Changes.{resumed_one};
+ghost use Rattle.key_claims.specs.Choice.{NoWork};
+ghost use Rattle.key_claims.specs.Contract.{AreBelow, Claims as Taken};
+ghost use Rattle.cdm_state.specs.Claims.{HasKid};
 
-use crate::choice::{
-    Copied, Ready, Work, copy_work, find_clear, find_ready, find_unkeyed, find_work, resume_if,
-    unrested,
-};
-use crate::claim::{Claim, ClaimFault, Delivered, NotReady, NotWaiting, Published};
-use crate::feed::{FeedPlan, add_batches, plan_feed, reserve_batches};
-use crate::log::Log;
-use crate::room::{append, reserve};
-use crate::sessions::{Sessions, StepFault};
-use crate::slot::{Slot, close_place, deliver_to, end_claim, refresh};
-use crate::track::{Output, Track, place_of};
+use crate::feed::{queue_events, take_in};
+use crate::room::{append, close_place, reserve, revoke_lost};
 use eme_types::{
-    AppCall, Bytes, Copies, Effect, Effects, Entry, Event, Fragment, TrackIds, Verdict,
+    AppCall, Bytes, Copies, Effect, Effects, EncSample, Entry, Event, Fragment, KeyId, TrackIds,
+    Verdict,
 };
+use key_claims::{Claim, ClaimFault, Delivered, NotReady, NotWaiting, Published, Tracks};
+use key_sessions::{Sessions, StepFault};
 use std::alloc::{AllocError, Global};
 use std::marker::Model;
+use task_queue::Log;
 
 /// A call that wanted memory, with the call handed back.
 #[derive(Drop)]
@@ -68,9 +62,7 @@ pub struct Cdm {
     history: Log<Entry>,
     effects: Log<Effects>,
     sessions: Sessions,
-    tracks: Vec<Track>,
-    /// The live claims.
-    claims: Vec<Slot>,
+    tracks: Tracks,
     /// The claims that wait for their delivery, by place.
     places: Vec<u64>,
 }
@@ -95,7 +87,7 @@ impl Cdm {
         ensures { IfOk result (λ c. c ≡ record { tracks = tracks.now; history = [] }) }
     {
         let ids = tracks.copy()?;
-        let states = empty_tracks(alloc, tracks.as_slice())?;
+        let states = Tracks::new(alloc, tracks)?;
         let mut history = Log::new(alloc);
         let mut effects = Log::new(alloc);
         let mut sessions = Sessions::new(alloc);
@@ -108,7 +100,6 @@ impl Cdm {
             effects,
             sessions,
             tracks: states,
-            claims: Vec::new(alloc),
             places: Vec::new(alloc),
         })
     }
@@ -148,25 +139,18 @@ impl Cdm {
     pub fn output(&self, track: u32, index: u32) -> Option<&[u8]>
         ensures { MatchOption result (slice_get (out self.now.tracks self.now.history track) index ≡ None) (λ x. slice_get (out self.now.tracks self.now.history track) index ≡ Some x.now) }
     {
-        match place_of(&self.tracks, track) {
-            None => None,
-            Some(i) => output_at(&self.tracks[i], index as usize),
-        }
+        self.tracks.output(track, index)
     }
 
     /// Whether the track waits for a key.
     pub fn waiting(&self, track: u32) -> bool
         ensures { IsTrue result ↔ is_waiting (find_track (world self.now.tracks self.now.history).tracks track) }
     {
-        match place_of(&self.tracks, track) {
-            None => false,
-            Some(i) => self.tracks[i].waiting,
-        }
+        self.tracks.waiting(track)
     }
 
-    /// A call of the application, and the number of its promise. Negotiation of access is not built yet.
+    /// A call of the application, and the number of its promise.
     pub fn call(&mut self, lane: u8, line: u32, call: AppCall) -> Result<u64, CallBack>
-        requires { IsBuilt call }
         ensures ok { OnOk result (self.new ≡ with_entry self.old (CallEntry lane line call)) }
         ensures number { IfOk result (λ p. p ≡ calls_in self.old.history + 1) }
         ensures err { OnErr result (self.new ≡ self.old) }
@@ -181,15 +165,16 @@ impl Cdm {
         }
         match self.sessions.call(&call) {
             Err(error) => Err(CallBack { call, error }),
-            Ok(answered) => {
-                refresh(&self.sessions, &mut self.claims);
+            Ok(promise) => {
+                revoke_lost(&mut self.tracks, self.sessions.lost());
+                let did = self.sessions.take_effects();
                 append(
                     &mut self.history,
                     &mut self.effects,
                     Entry::Call { lane, line, call },
-                    answered.effects,
+                    did,
                 );
-                Ok(answered.promise)
+                Ok(promise)
             }
         }
     }
@@ -207,10 +192,9 @@ impl Cdm {
         if reserve(&mut self.history, &mut self.effects, waits, &self.tracks, 1).is_err() {
             return Err(StepFault::OutOfMemory);
         }
-        let keep = self.tracks.len();
-        self.sessions.job(keep)?;
-        refresh(&self.sessions, &mut self.claims);
-        let did = Effects::new(self.alloc);
+        self.sessions.job()?;
+        revoke_lost(&mut self.tracks, self.sessions.lost());
+        let did = self.sessions.take_effects();
         append(&mut self.history, &mut self.effects, Entry::Job, did);
         Ok(())
     }
@@ -228,16 +212,16 @@ impl Cdm {
         if reserve(&mut self.history, &mut self.effects, waits, &self.tracks, 1).is_err() {
             return Err(StepFault::OutOfMemory);
         }
-        let keep = self.tracks.len();
-        let ran = self.sessions.task(keep)?;
-        resume_if(ran.resume, &self.sessions, &mut self.tracks);
-        refresh(&self.sessions, &mut self.claims);
-        append(
-            &mut self.history,
-            &mut self.effects,
-            Entry::Task,
-            ran.effects,
-        );
+        // The front task may be `Resume`, after which every track may begin to wait.
+        let awake = self.tracks.len();
+        if self.sessions.reserve_events(awake).is_err() {
+            return Err(StepFault::OutOfMemory);
+        }
+        let resume = self.sessions.task()?;
+        resume_if(resume, &self.sessions, &mut self.tracks);
+        revoke_lost(&mut self.tracks, self.sessions.lost());
+        let did = self.sessions.take_effects();
+        append(&mut self.history, &mut self.effects, Entry::Task, did);
         Ok(())
     }
 
@@ -249,10 +233,9 @@ impl Cdm {
     {
         let waits = self.places.len();
         reserve(&mut self.history, &mut self.effects, waits, &self.tracks, 1)?;
-        let keep = self.tracks.len();
-        self.sessions.tick(moment, keep)?;
-        refresh(&self.sessions, &mut self.claims);
-        let did = Effects::new(self.alloc);
+        self.sessions.tick(moment)?;
+        revoke_lost(&mut self.tracks, self.sessions.lost());
+        let did = self.sessions.take_effects();
         append(
             &mut self.history,
             &mut self.effects,
@@ -269,32 +252,21 @@ impl Cdm {
         ensures err { OnErr result (self.new ≡ self.old) }
         ensures back { IfErr result (λ b. b.fragment ≡ fragment) }
     {
-        let plan = match plan_feed(self.alloc, &fragment) {
-            Err(error) => return Err(FeedBack { fragment, error }),
-            Ok(plan) => plan,
-        };
         let waits = self.places.len();
-        let roomy = reserve_feed(
+        let taken = take_in(
+            self.alloc,
             &mut self.history,
             &mut self.effects,
             &mut self.sessions,
             &mut self.tracks,
             waits,
-            &plan,
+            &fragment,
         );
-        if roomy.is_err() {
-            return Err(FeedBack {
-                fragment,
-                error: AllocError,
-            });
-        }
-        let FeedPlan {
-            batches,
-            events,
-            ..
-        } = plan;
-        add_batches(&mut self.tracks, batches);
-        self.sessions.queue_tasks(events);
+        let events = match taken {
+            Err(error) => return Err(FeedBack { fragment, error }),
+            Ok(events) => events,
+        };
+        queue_events(&mut self.sessions, events);
         let did = Effects::new(self.alloc);
         append(
             &mut self.history,
@@ -311,39 +283,19 @@ impl Cdm {
         ensures err { OnErr result (self.new ≡ self.old) }
         ensures no_work { IsErrOf result ClaimFault.NoWork → (track index session : ℕ) (kid : List ℕ) → MayClaim self.old.tracks self.old.history track index session kid → ⊥ }
     {
-        let work = match find_work(&self.sessions, &self.claims, &self.tracks) {
-            None => return Err(ClaimFault::NoWork),
-            Some(work) => work,
-        };
-        let track = self.tracks[work.at].id;
-        let copied = match copy_work(&self.tracks[work.at], work.index) {
-            Ok(Some(copied)) => copied,
-            Ok(None) => return Err(ClaimFault::NoWork),
-            Err(_) => return Err(ClaimFault::OutOfMemory),
-        };
         let waits = self.places.len();
         if reserve(&mut self.history, &mut self.effects, waits, &self.tracks, 2).is_err() {
-            return Err(ClaimFault::OutOfMemory);
-        }
-        if self.claims.reserve(1).is_err() {
             return Err(ClaimFault::OutOfMemory);
         }
         if self.places.reserve(1).is_err() {
             return Err(ClaimFault::OutOfMemory);
         }
         let place = self.history.next_place();
-        let index = work.index as u32;
-        let Copied { kid, again, sample } = copied;
-        self.claims.push_reserved(Slot {
-            place,
-            worker,
-            track,
-            index,
-            session: work.session,
-            kid: again,
-            key: work.key,
-            clear: None,
-        });
+        let taken = claim_sample(&mut self.tracks, &self.sessions, worker, place);
+        let (claim, kid) = match taken {
+            Err(fault) => return Err(fault),
+            Ok(taken) => taken,
+        };
         self.places.push_reserved(place);
         let did = Effects::new(self.alloc);
         append(
@@ -351,22 +303,14 @@ impl Cdm {
             &mut self.effects,
             Entry::Claim {
                 worker,
-                track,
-                index,
-                session: work.session,
+                track: claim.track,
+                index: claim.index,
+                session: claim.session,
                 kid,
             },
             did,
         );
-        Ok(Claim {
-            place,
-            worker,
-            track,
-            index,
-            session: work.session,
-            key: work.key,
-            sample,
-        })
+        Ok(claim)
     }
 
     /// The clear bytes of a claim come back.
@@ -378,8 +322,8 @@ impl Cdm {
         let place = claim.place;
         close_place(&mut self.places, place);
         let did = Effects::new(self.alloc);
-        match deliver_to(&mut self.claims, place, clear) {
-            None => {
+        match self.tracks.deliver(claim, clear) {
+            Delivered::Taken => {
                 append(
                     &mut self.history,
                     &mut self.effects,
@@ -391,7 +335,7 @@ impl Cdm {
                 );
                 Delivered::Taken
             }
-            Some(back) => {
+            Delivered::Stale(back) => {
                 append(
                     &mut self.history,
                     &mut self.effects,
@@ -413,7 +357,7 @@ impl Cdm {
     {
         let place = claim.place;
         close_place(&mut self.places, place);
-        end_claim(&mut self.claims, place);
+        self.tracks.give_up(claim);
         let did = Effects::new(self.alloc);
         append(
             &mut self.history,
@@ -430,31 +374,23 @@ impl Cdm {
         ensures err { OnErr result (self.new ≡ self.old) }
         ensures not_ready { OnErr result ((track index place : ℕ) → MayPublish self.old.tracks self.old.history track index place → ⊥) }
     {
-        let ready = match find_ready(&self.claims, &self.tracks) {
+        let place = match self.tracks.ready() {
             None => return Err(NotReady),
-            Some(ready) => ready,
+            Some(ready) => ready.place,
         };
-        let slot = self.claims.remove(ready.slot);
-        let Slot {
-            place,
-            track,
-            index,
-            clear,
-            ..
-        } = slot;
-        put_output(&mut self.tracks, ready.at, clear);
+        let published = self.tracks.publish()?;
         let did = Effects::new(self.alloc);
         append(
             &mut self.history,
             &mut self.effects,
             Entry::Publish {
-                track,
-                index,
+                track: published.track,
+                index: published.index,
                 place,
             },
             did,
         );
-        Ok(Published { track, index })
+        Ok(published)
     }
 
     /// The first track whose next sample is unprotected gives it out.
@@ -464,12 +400,7 @@ impl Cdm {
         ensures err { OnErr result (self.new ≡ self.old) }
         ensures not_ready { OnErr result ((track index : ℕ) → MayPassClear self.old.tracks self.old.history track index → ⊥) }
     {
-        let at = match find_clear(&self.tracks) {
-            None => return Err(NotReady),
-            Some(at) => at,
-        };
-        let next = next_of(&self.tracks, at);
-        put_output(&mut self.tracks, at, None);
+        let next = self.tracks.pass_clear()?;
         let did = Effects::new(self.alloc);
         append(
             &mut self.history,
@@ -490,12 +421,7 @@ impl Cdm {
         ensures err { OnErr result (self.new ≡ self.old) }
         ensures not_waiting { OnErr result ((track : ℕ) → MayWait self.old.tracks self.old.history track → ⊥) }
     {
-        let at = match find_unkeyed(&self.sessions, &self.claims, &self.tracks) {
-            None => return Err(NotWaiting),
-            Some(at) => at,
-        };
-        let track = self.tracks[at].id;
-        set_waiting(&mut self.tracks, at);
+        let track = self.tracks.wait_for_key(&self.sessions)?;
         self.sessions.queue_event(Event::WaitingForKey { track });
         let did = Effects::new(self.alloc);
         append(
@@ -520,8 +446,8 @@ impl Cdm {
         if self.sessions.task_left() {
             return Err(SettleFault::Task);
         }
-        match unrested(&self.sessions, &self.tracks) {
-            Some(at) => return Err(SettleFault::Track(self.tracks[at].id)),
+        match self.tracks.unrested(&self.sessions) {
+            Some(track) => return Err(SettleFault::Track(track)),
             None => {}
         }
         let waits = self.places.len();
@@ -539,115 +465,43 @@ impl Cdm {
     }
 }
 
-/// Tracks without a sample.
-fn empty_tracks(alloc: Global, ids: &[u32]) -> Result<Vec<Track>, AllocError>
-    ensures { IfOk result (λ tracks. AreEmpty tracks.items ids.now) }
+/// The waiting tracks are looked at again, if it is asked for.
+fn resume_if(asked: bool, sessions: &Sessions, tracks: &mut Tracks)
+    ensures { tracks.new ≡ record tracks.old { tracks = if asked then map (resumed_one (pick sessions.now.machine)) tracks.old.tracks else tracks.old.tracks } }
 {
-    let mut tracks = Vec::new(alloc);
-    for id in ids {
-        tracks.push(Track {
-            id: *id,
-            fed: Log::new(alloc),
-            outputs: Log::new(alloc),
-            waiting: false,
-        })?;
+    if asked {
+        tracks.resume(sessions);
     }
-    Ok(tracks)
 }
 
-/// The bytes that are out at an index.
-fn output_at(track: &Track, index: usize) -> Option<&[u8]>
-    requires { length track.now.outputs.0 ≤ length track.now.fed.0 }
-    ensures { MatchOption result (slice_get (shown_of track.now) index ≡ None) (λ x. slice_get (shown_of track.now) index ≡ Some x.now) }
+/// A copy of a sample's key id.
+fn kid_of(sample: &EncSample) -> Result<KeyId, AllocError>
+    ensures { IfOk result (HasKid sample.now) }
 {
-    let outputs = track.outputs.as_slice();
-    if index >= outputs.len() {
-        return None;
+    match &sample.protect {
+        None => Err(AllocError),
+        Some(protect) => protect.kid.copy(),
     }
-    match &outputs[index] {
-        Output::Opened(bytes) => Some(bytes.as_slice()),
-        Output::Same => {
-            let fed = track.fed.as_slice();
-            Some(fed[index].bytes.as_slice())
+}
+
+/// A claim, with its key id. Nothing has changed where it is refused.
+fn claim_sample(
+    tracks: &mut Tracks,
+    sessions: &Sessions,
+    worker: u8,
+    place: u64,
+) -> Result<(Claim, KeyId), ClaimFault>
+    requires { AreBelow place tracks.old.claims }
+    ensures ok { IfOk result (λ r. Taken (pick sessions.now.machine) tracks.old worker place r.0 tracks.new × HasKid r.0.sample r.1) }
+    ensures err { OnErr result (tracks.new ≡ tracks.old) }
+    ensures no_work { IsErrOf result ClaimFault.NoWork → NoWork (pick sessions.now.machine) tracks.old.claims tracks.old.tracks }
+{
+    let claim = tracks.claim(worker, place, sessions)?;
+    match kid_of(&claim.sample) {
+        Ok(kid) => Ok((claim, kid)),
+        Err(_) => {
+            tracks.give_up(claim);
+            Err(ClaimFault::OutOfMemory)
         }
     }
-}
-
-/// The sample of the track at a place that is out next.
-fn next_of(tracks: &Vec<Track>, at: usize) -> Published
-    requires within { at < length tracks.now.items }
-    requires short { (d : Track) → length (slice_index_or tracks.now.items at d).outputs.0 ≤ 1048576 }
-    ensures track { (d : Track) → result.track ≡ (slice_index_or tracks.now.items at d).id }
-    ensures index { (d : Track) → result.index ≡ length (slice_index_or tracks.now.items at d).outputs.0 }
-{
-    let track = &tracks[at];
-    Published {
-        track: track.id,
-        index: track.outputs.len() as u32,
-    }
-}
-
-/// The next sample of the track at a place is out: its opened bytes, or its own.
-fn put_output(tracks: &mut Vec<Track>, at: usize, clear: Option<Bytes>)
-    requires within { at < length tracks.old.items }
-    requires left { (d : Track) → 1 ≤ left_of (slice_index_or tracks.old.items at d) }
-    requires roomy { AreRoomy tracks.old.items }
-    ensures room { GivesOut tracks.old.items tracks.new.items }
-    ensures moved { ChangedAt tracks.old.items tracks.new.items at one_more }
-    ensures out { OneOut tracks.old.items tracks.new.items at (output_from clear) }
-{
-    let output = match clear {
-        None => Output::Same,
-        Some(bytes) => Output::Opened(bytes),
-    };
-    let track = &mut tracks[at];
-    track.outputs.put(output);
-}
-
-/// The track at a place begins to wait.
-fn set_waiting(tracks: &mut Vec<Track>, at: usize)
-    requires within { at < length tracks.old.items }
-    requires awake { (d : Track) → (slice_index_or tracks.old.items at d).waiting ≡ false }
-    ensures room { Sleeps tracks.old.items tracks.new.items }
-    ensures moved { ChangedAt tracks.old.items tracks.new.items at waits_now }
-    ensures out { SameOut tracks.old.items tracks.new.items }
-{
-    let track = &mut tracks[at];
-    track.waiting = true;
-}
-
-/// Room for a feed: its entry, its samples and what will be out of them, its events.
-fn reserve_feed(
-    history: &mut Log<Entry>,
-    effects: &mut Log<Effects>,
-    sessions: &mut Sessions,
-    tracks: &mut Vec<Track>,
-    waits: usize,
-    plan: &FeedPlan,
-) -> Result<(), AllocError>
-    ensures entries { history.new.0 ≡ history.old.0 }
-    ensures effects { effects.new.0 ≡ effects.old.0 }
-    ensures machine { sessions.new.machine ≡ sessions.old.machine }
-    ensures grown { Grown tracks.old.items tracks.new.items 0 }
-    ensures same { map track_of tracks.new.items ≡ map track_of tracks.old.items }
-    ensures ready { OnOk result (AreReadyFor plan.now.batches.items tracks.new.items) }
-    ensures out { SameOut tracks.old.items tracks.new.items }
-    ensures history_more { history.old.1 ≤ history.new.1 }
-    ensures effects_more { effects.old.1 ≤ effects.new.1 }
-    ensures events_more { sessions.old.room ≤ sessions.new.room }
-    ensures history_room { OnOk result (waits + length tracks.old.items + all_left tracks.old.items + (plan.now.count + 1) ≤ history.new.1) }
-    ensures effects_room { OnOk result (waits + length tracks.old.items + all_left tracks.old.items + (plan.now.count + 1) ≤ effects.new.1) }
-    ensures events_room { OnOk result (length plan.now.events.items + length tracks.old.items ≤ sessions.new.room) }
-{
-    let more = match plan.count.checked_add(1) {
-        None => return Err(AllocError),
-        Some(more) => more,
-    };
-    let events = match plan.events.len().checked_add(tracks.len()) {
-        None => return Err(AllocError),
-        Some(events) => events,
-    };
-    reserve(history, effects, waits, tracks, more)?;
-    sessions.reserve_events(events)?;
-    reserve_batches(tracks, &plan.batches)
 }

@@ -2,32 +2,15 @@
 #![tactic(auto)]
 
 mod cdm;
-mod change;
-mod choice;
-mod claim;
 mod feed;
 mod law;
-mod log;
-mod plan;
-mod promises;
-mod queue;
-mod report;
 mod room;
-mod session;
-mod sessions;
-mod slot;
-mod table;
-#[cfg(test)]
-mod tests;
-mod track;
-mod work;
 
 pub use cdm::{CallBack, Cdm, FeedBack, SettleFault};
-pub use claim::{Claim, ClaimFault, Delivered, NotReady, NotWaiting, Published};
+pub use key_claims::{Claim, ClaimFault, Delivered, NotReady, NotWaiting, Published};
+pub use key_sessions::StepFault;
 pub use law::{
-    moment_is_of_the_last_tick, promises_are_settled_at_most_once, promises_are_settled_once,
+    claims_are_alone_in_the_window, moment_is_of_the_last_tick, promises_are_owed_once,
+    promises_are_settled_at_most_once, promises_are_settled_once, tracks_wait_only_for_keys,
     what_has_nothing_to_do_is_at_rest,
 };
-pub use sessions::StepFault;
-pub use table::KnownKey;
-pub use work::{Job, Task};

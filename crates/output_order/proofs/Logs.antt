@@ -6,7 +6,8 @@ use Rattle.std.proofs.lemmas.List.Sums.{fold_more}
 use Rattle.eme_types.specs.declared.entry.Entry.{Entry}
 use Rattle.eme_types.specs.declared.entry.Entry.TheVariants.{Call, Job, Task, Tick, Feed, Claim, Deliver, GiveUp, Publish, PassClear, WaitForKey, Settle}
 use Rattle.eme_types.specs.declared.call.Effect.{Effect}
-use Rattle.cdm_state.specs.World.{World, empty_world, after_entry, effects_of}
+use Rattle.key_sessions.specs.World.{World, empty_world}
+use Rattle.cdm_state.specs.After.{after_entry, effects_of}
 use Rattle.cdm_state.specs.History.{world}
 use Rattle.cdm_state.specs.Settlements.{effects_from, effects_in}
 use Rattle.output_order.proofs.Puts.{put_three}

@@ -8,7 +8,8 @@ use Rattle.std.proofs.lemmas.Option.{slice_get-get_or}
 use Rattle.eme_types.specs.declared.entry.Entry.{Entry}
 use Rattle.eme_types.specs.declared.entry.Entry.TheVariants.{Call, Job, Task, Tick, Feed, Claim, Deliver, GiveUp, Publish, PassClear, WaitForKey, Settle}
 use Rattle.eme_types.specs.declared.call.Effect.{Effect}
-use Rattle.cdm_state.specs.World.{World, empty_world, after_entry}
+use Rattle.key_sessions.specs.World.{World, empty_world}
+use Rattle.cdm_state.specs.After.{after_entry}
 use Rattle.cdm_state.specs.Settlements.{effects_from, effects_in, is_call}
 
 pub some_same : {A : Type 0} {a b : A} → Some a ≡ Some b → a ≡ b

@@ -20,7 +20,8 @@ use Rattle.eme_types.specs.declared.entry.Verdict.{Verdict}
 use Rattle.eme_types.specs.declared.entry.Verdict.TheVariants.{Taken, Stale}
 use Rattle.eme_types.specs.declared.entry.Entry.{Entry}
 use Rattle.eme_types.specs.declared.entry.Entry.TheVariants.{Call, Job, Task, Tick, Feed, Claim, Deliver, GiveUp, Publish, PassClear, WaitForKey, Settle}
-use Rattle.cdm_state.specs.World.{World, empty_world, after_entry, effects_of}
+use Rattle.key_sessions.specs.World.{World, empty_world}
+use Rattle.cdm_state.specs.After.{after_entry, effects_of}
 
 -- bytes in lower-case hexadecimal; a dash for no bytes
 abbrev pub hex_text : List ℕ → List ℕ

@@ -2,8 +2,10 @@ pub mod Writes
 pub mod Fronts
 pub mod FileLemmas
 pub mod NameLemmas
+pub mod InputLemmas
+pub mod InspectLemmas
 pub mod PlayLemmas
-pub mod MediaLemmas
 pub mod Complete
 pub mod HexLemmas
+pub mod NumberLemmas
 pub mod AnswerLemmas

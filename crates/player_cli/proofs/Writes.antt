@@ -1,11 +1,11 @@
 -- A run of appends.
-use Rattle.std.proofs.Common.{◌≡◌, ◌≢◌, ◌≤◌, ℕ, ◌+◌, ◌-◌, ◌^◌, min, List, [], ◌∷◌, ◌++◌, length, take, drop, Some, None, Option, refl, ap, sym, subst, ◌∙◌, arith, append_assoc, length-append}
-use Rattle.std.specs.Prelude.{IsTrue, Result, Ok, Err, IsErrOf}
+use Rattle.std.proofs.Common.{◌≡◌, ◌≤◌, ℕ, ◌+◌, min, List, ◌++◌, length, take, drop, Some, None, Option, ap, sym, ◌∙◌, arith, append_assoc, length-append}
+use Rattle.std.specs.Prelude.{IsTrue, Result}
 use Rattle.std.proofs.lemmas.List.{take-append-drop, take_min, take-append-le}
 use Rattle.std.proofs.Math.Seq.{take-append-add}
 use Rattle.eme_edge.specs.Shelf.{ShelfState, OthersKept, TellsAlike, WriteCause, HoldsMore, HoldsPart, Rose}
 use Rattle.eme_edge.specs.declared.shelf.ShelfFault.{ShelfFault}
-use Rattle.player_cli.specs.Written.{IsWriting, WritesCause, HoldsFront}
+use Rattle.player_cli.specs.Written.{IsWriting, HoldsFront}
 
 pub tells_on : (a b c : ShelfState) → TellsAlike a b → TellsAlike b c → TellsAlike a c
 tells_on a b c s t = record { files = t.files ∙ s.files; said = t.said ∙ s.said }

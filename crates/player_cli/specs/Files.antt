@@ -1,5 +1,5 @@
 -- The files that a play writes.
-use Rattle.std.specs.Prelude.{ℕ, ◌≡◌, ◌≢◌, ◌<◌, List, [], ◌∷◌, ◌++◌, length, map, codes, slice_index_or}
+use Rattle.std.specs.Prelude.{ℕ, ◌≢◌, ◌<◌, List, [], ◌∷◌, ◌++◌, length, map, codes, slice_index_or}
 use Rattle.std.specs.Fmt.{decimal}
 use Rattle.eme_types.specs.declared.entry.Entry.{Entry}
 use Rattle.output_order.specs.Log.{log_of}

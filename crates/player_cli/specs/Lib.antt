@@ -1,9 +1,12 @@
-pub mod MediaForm
 pub mod Command
 pub mod FileText
 pub mod Files
 pub mod ReadAll
+pub mod Inputs
 pub mod Written
+pub mod Said
 pub mod Answered
+pub mod Inspected
+pub mod Shown
 pub mod Played
 pub mod Faults

@@ -1,5 +1,5 @@
 -- Texts on their way into files.
-use Rattle.std.specs.Prelude.{ℕ, ◌≡◌, ◌≢◌, ◌≤◌, ◌<◌, ◌+◌, ◌⊎◌, List, [], ◌++◌, length, take, IsTrue, Some, Option, Result, IsErrOf}
+use Rattle.std.specs.Prelude.{ℕ, ◌≡◌, ◌≢◌, ◌≤◌, ◌<◌, ◌+◌, ◌⊎◌, List, ◌++◌, length, take, IsTrue, Some, Option, Result, IsErrOf}
 use Rattle.eme_edge.specs.Shelf.{ShelfState, Files, OthersKept, TellsAlike, Rose, SaidPart}
 use Rattle.eme_edge.specs.declared.shelf.ShelfFault.{ShelfFault}
 use Rattle.eme_edge.specs.declared.shelf.ShelfFault.TheVariants.{Failed}

@@ -2,10 +2,11 @@
 ghost use Rattle.std.specs.Prelude.{◌≡◌, IfOk, codes, string_bytes};
 ghost use Rattle.player_cli.specs.Faults.{status_of, text_of, usage_name, script_name, media_name};
 
-use crate::outcome::{MediaKind, Outcome, UsageFault, UsageKind, Which};
+use crate::outcome::{Outcome, UsageFault, UsageKind, Which};
 use eme_types::Bytes;
 use script_lang::ScriptKind;
 use std::alloc::{AllocError, Global};
+use track_media::MediaKind;
 
 /// The exit status of the program.
 pub fn status(outcome: &Outcome) -> u8
@@ -44,7 +45,19 @@ fn script_name(kind: ScriptKind) -> &'static str
     ensures { result.now ≡ script_name kind }
 {
     match kind {
-        ScriptKind::NotYet => "NotYet",
+        ScriptKind::NotUtf8 => "NotUtf8",
+        ScriptKind::Header => "Header",
+        ScriptKind::TooManyLines => "TooManyLines",
+        ScriptKind::Lane => "Lane",
+        ScriptKind::Verb => "Verb",
+        ScriptKind::LaneKind => "LaneKind",
+        ScriptKind::Words => "Words",
+        ScriptKind::Label => "Label",
+        ScriptKind::DuplicateLabel => "DuplicateLabel",
+        ScriptKind::Form => "Form",
+        ScriptKind::Hex => "Hex",
+        ScriptKind::Number => "Number",
+        ScriptKind::ClockBack => "ClockBack",
     }
 }
 
@@ -52,7 +65,41 @@ fn media_name(kind: MediaKind) -> &'static str
     ensures { result.now ≡ media_name kind }
 {
     match kind {
-        MediaKind::NotYet => "NotYet",
+        MediaKind::Short => "Short",
+        MediaKind::SizeTooSmall => "SizeTooSmall",
+        MediaKind::PastEnd => "PastEnd",
+        MediaKind::Version => "Version",
+        MediaKind::IsProtected => "IsProtected",
+        MediaKind::IvSize => "IvSize",
+        MediaKind::Pattern => "Pattern",
+        MediaKind::Scheme => "Scheme",
+        MediaKind::NoTenc => "NoTenc",
+        MediaKind::CountDiffers => "CountDiffers",
+        MediaKind::NoTrackId => "NoTrackId",
+        MediaKind::SecondTrack => "SecondTrack",
+        MediaKind::TooManyTracks => "TooManyTracks",
+        MediaKind::EntryType => "EntryType",
+        MediaKind::AudioVersion => "AudioVersion",
+        MediaKind::NoSinf => "NoSinf",
+        MediaKind::Progressive => "Progressive",
+        MediaKind::NoTfhd => "NoTfhd",
+        MediaKind::UnknownTrack => "UnknownTrack",
+        MediaKind::NoTrex => "NoTrex",
+        MediaKind::Description => "Description",
+        MediaKind::TooManySamples => "TooManySamples",
+        MediaKind::TooManyBytes => "TooManyBytes",
+        MediaKind::DataPastEnd => "DataPastEnd",
+        MediaKind::GroupIndex => "GroupIndex",
+        MediaKind::AuxSize => "AuxSize",
+        MediaKind::OffsetPastEnd => "OffsetPastEnd",
+        MediaKind::NoAux => "NoAux",
+        MediaKind::SubsSum => "SubsSum",
+        MediaKind::NoMoov => "NoMoov",
+        MediaKind::SecondMoov => "SecondMoov",
+        MediaKind::Line => "Line",
+        MediaKind::TrackId => "TrackId",
+        MediaKind::Hex => "Hex",
+        MediaKind::Kid => "Kid",
     }
 }
 

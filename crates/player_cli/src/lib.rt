@@ -1,13 +1,16 @@
 //! The player: its command line, the files that it reads and writes, and its top call.
 #![tactic(auto)]
 
+mod demo;
 mod fault;
-mod media;
+mod inputs;
+mod inspect;
 mod outcome;
 mod play;
 mod quiet;
 mod read;
 mod request;
+mod say;
 #[cfg(test)]
 mod tests;
 mod texts;
@@ -16,5 +19,7 @@ mod words;
 mod write;
 
 pub use fault::{fault_text, status};
-pub use outcome::{MediaKind, Outcome, UsageFault, UsageKind, Which};
+pub use outcome::{Outcome, UsageFault, UsageKind, Which};
+pub use script_lang::ScriptKind;
 pub use top::{run_player, run_quiet};
+pub use track_media::MediaKind;

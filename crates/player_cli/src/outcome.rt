@@ -1,5 +1,6 @@
 // What the top call answers.
 use script_lang::ScriptKind;
+use track_media::MediaKind;
 
 /// Which of the two files.
 #[derive(Clone, Copy, Debug, PartialEq, Eq)]
@@ -29,13 +30,6 @@ pub struct UsageFault {
     pub kind: UsageKind,
 }
 
-/// Why a media file is refused.
-#[derive(Clone, Copy, Debug, PartialEq, Eq)]
-pub enum MediaKind {
-    /// The media has another form than the one that can be played yet.
-    NotYet,
-}
-
 /// What the top call answers.
 #[derive(Clone, Copy, Debug, PartialEq, Eq)]
 pub enum Outcome {
@@ -44,9 +38,9 @@ pub enum Outcome {
     /// Another command said all of its text.
     Done,
     Usage(UsageFault),
-    /// The first line that is refused, counted from 1.
+    /// The first line with a broken rule, counted from 1, and its first broken rule.
     ScriptRefused { line: u32, kind: ScriptKind },
-    /// The first byte of what is refused.
+    /// The first byte of what breaks the first broken rule, counted from 0.
     MediaRefused { place: u64, kind: MediaKind },
     /// The file has more bytes than the limit.
     TooLarge { which: Which, limit: u64 },

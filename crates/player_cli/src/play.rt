@@ -1,29 +1,22 @@
 // A play: both files are read, and what they give is played and written.
-ghost use Rattle.std.specs.Prelude.{◌≡◌, Ok, Err, MatchResult, IfOk, IsTrue};
+ghost use Rattle.std.specs.Prelude.{◌≡◌, IsTrue};
 ghost use Rattle.eme_types.specs.Fed.{are_distinct};
 ghost use Rattle.cdm_state.specs.History.{world, IsLegal, AtRest};
 ghost use Rattle.output_order.specs.Summary.{summary_of};
 ghost use Rattle.player_cli.specs.Files.{files_of};
 ghost use Rattle.player_cli.specs.Played.{PlaySays, EndSays, SettlesEach};
 
-use crate::media::{MediaFault, read_media};
-use crate::outcome::{Outcome, Which};
-use crate::read::{ReadEnd, read_whole};
+use crate::inputs::{media_in, script_in};
+use crate::outcome::Outcome;
 use crate::texts::files_of;
 use crate::write::write_texts;
 use cdm_state::{Cdm, promises_are_settled_once};
 use eme_edge::{Shelf, ShelfFault};
 use output_order::summary_text;
 use player_core::play_alone;
-use script_lang::{ScriptFault, read_script};
 use std::alloc::Global;
 
-const SCRIPT_LIMIT: u64 = 1048576;
-
-const MEDIA_LIMIT: u64 = 67108864;
-
 /// Reads the script, then the media, plays them, and writes the texts of the play.
-#[tactic(auto, using(crate::proofs::PlayLemmas::form_built))]
 pub fn play_files<S: Shelf>(
     alloc: Global,
     script: &str,
@@ -35,37 +28,13 @@ pub fn play_files<S: Shelf>(
     requires { workers ≡ 0 }
     ensures { PlaySays result (S.state shelf.old) (S.state shelf.new) (record { script = script.now; media = media.now; prefix = prefix.now; workers = workers }) }
 {
-    let script_bytes = match read_whole(alloc, shelf, script, SCRIPT_LIMIT) {
-        Ok(bytes) => bytes,
-        Err(ReadEnd::TooLarge) => {
-            return Outcome::TooLarge {
-                which: Which::Script,
-                limit: SCRIPT_LIMIT,
-            };
-        }
-        Err(ReadEnd::Fault) => return Outcome::ReadFault,
-        Err(ReadEnd::OutOfMemory) => return Outcome::OutOfMemory,
-    };
-    let lines = match read_script(alloc, script_bytes.as_slice()) {
+    let lines = match script_in(alloc, shelf, script) {
         Ok(lines) => lines,
-        Err(ScriptFault::Refused { line, kind }) => return Outcome::ScriptRefused { line, kind },
-        Err(ScriptFault::OutOfMemory) => return Outcome::OutOfMemory,
+        Err(end) => return end,
     };
-    let media_bytes = match read_whole(alloc, shelf, media, MEDIA_LIMIT) {
-        Ok(bytes) => bytes,
-        Err(ReadEnd::TooLarge) => {
-            return Outcome::TooLarge {
-                which: Which::Media,
-                limit: MEDIA_LIMIT,
-            };
-        }
-        Err(ReadEnd::Fault) => return Outcome::ReadFault,
-        Err(ReadEnd::OutOfMemory) => return Outcome::OutOfMemory,
-    };
-    let samples = match read_media(alloc, &lines, media_bytes.as_slice()) {
+    let samples = match media_in(alloc, shelf, media) {
         Ok(samples) => samples,
-        Err(MediaFault::Refused { place, kind }) => return Outcome::MediaRefused { place, kind },
-        Err(MediaFault::OutOfMemory) => return Outcome::OutOfMemory,
+        Err(end) => return end,
     };
     let Ok(cdm) = play_alone(alloc, &lines, samples) else {
         return Outcome::OutOfMemory;

@@ -1,12 +1,11 @@
 // The words of the commands that play no files.
-ghost use Rattle.std.specs.Prelude.{◌≡◌, map, string_bytes, is_some, MatchResult, Err};
+ghost use Rattle.std.specs.Prelude.{◌≡◌, map, string_bytes, is_some, MatchResult, Ok, Err};
 ghost use Rattle.std.specs.List.{list_all};
 ghost use Rattle.hex.specs.Hex.{is_hex_digit};
-ghost use Rattle.player_cli.specs.Command.{quiet_command, request_words, kind_of, IsRequested};
-ghost use Rattle.player_cli.specs.MediaForm.{hex_bytes};
+ghost use Rattle.player_cli.specs.Command.{quiet_command, inspect_words, request_words, demo_words, kind_of, hex_bytes, is_number, number_of, Inspect, Demo, IsRequested, IsQuiet};
 
 use crate::outcome::{UsageFault, UsageKind};
-use crate::words::{bad_word, next_word};
+use crate::words::{all_decimal, bad_word, next_word};
 use eme_types::InitKind;
 
 /// What the words of a request ask for. The hexadecimal word is in its form.
@@ -14,6 +13,16 @@ use eme_types::InitKind;
 pub struct RequestWords<'a> {
     pub kind: InitKind,
     pub hex: &'a str,
+}
+
+/// What the words of a command ask for that plays no files.
+#[derive(Clone, Copy)]
+pub enum QuietWords<'a> {
+    /// The text of the media file of this name.
+    Inspect(&'a str),
+    Request(RequestWords<'a>),
+    /// The play of the demonstration of this number.
+    Demo(u64),
 }
 
 fn kind_of(word: &str) -> Option<InitKind>
@@ -52,16 +61,47 @@ fn is_hex(word: &str) -> bool
 
 /// Reads the words from left to right. `play` is none of these commands.
 #[tactic(auto, unfolding(crate::specs::Command::quiet_command))]
-pub fn read_quiet(words: &[String]) -> Result<RequestWords<'_>, UsageFault>
-    ensures { MatchResult result (IsRequested (quiet_command (map string_bytes words.now))) (λ e. quiet_command (map string_bytes words.now) ≡ Err e) }
+pub fn read_quiet(words: &[String]) -> Result<QuietWords<'_>, UsageFault>
+    ensures { MatchResult result (IsQuiet (quiet_command (map string_bytes words.now))) (λ e. quiet_command (map string_bytes words.now) ≡ Err e) }
 {
     let Some((command, rest)) = next_word(words) else {
         return Err(bad_word(1, UsageKind::MissingCommand));
     };
-    if command != "request" {
-        return Err(bad_word(1, UsageKind::UnknownCommand));
+    if command == "inspect" {
+        return match read_inspect(rest) {
+            Ok(media) => Ok(QuietWords::Inspect(media)),
+            Err(fault) => Err(fault),
+        };
     }
-    read_request(rest)
+    if command == "request" {
+        return match read_request(rest) {
+            Ok(asked) => Ok(QuietWords::Request(asked)),
+            Err(fault) => Err(fault),
+        };
+    }
+    if command == "demo" {
+        return match read_demo(rest) {
+            Ok(n) => Ok(QuietWords::Demo(n)),
+            Err(fault) => Err(fault),
+        };
+    }
+    Err(bad_word(1, UsageKind::UnknownCommand))
+}
+
+/// The name of the media file.
+fn read_inspect(words: &[String]) -> Result<&str, UsageFault>
+    ensures { MatchResult result (λ media. inspect_words (map string_bytes words.now) ≡ Ok (Inspect media.now)) (λ e. inspect_words (map string_bytes words.now) ≡ Err e) }
+{
+    let Some((media, rest)) = next_word(words) else {
+        return Err(bad_word(2, UsageKind::MissingWord));
+    };
+    if media.is_empty() {
+        return Err(bad_word(2, UsageKind::EmptyName));
+    }
+    match next_word(rest) {
+        None => Ok(media),
+        Some(_) => Err(bad_word(3, UsageKind::ExtraWord)),
+    }
 }
 
 fn read_request(words: &[String]) -> Result<RequestWords<'_>, UsageFault>
@@ -83,4 +123,40 @@ fn read_request(words: &[String]) -> Result<RequestWords<'_>, UsageFault>
         None => Ok(RequestWords { kind, hex }),
         Some(_) => Err(bad_word(4, UsageKind::ExtraWord)),
     }
+}
+
+/// The number of the demonstration.
+fn read_demo(words: &[String]) -> Result<u64, UsageFault>
+    ensures { MatchResult result (λ n. demo_words (map string_bytes words.now) ≡ Ok (Demo n)) (λ e. demo_words (map string_bytes words.now) ≡ Err e) }
+{
+    let Some((word, rest)) = next_word(words) else {
+        return Err(bad_word(2, UsageKind::MissingWord));
+    };
+    let Some(n) = number_of(word) else {
+        return Err(bad_word(2, UsageKind::BadNumber));
+    };
+    match next_word(rest) {
+        None => Ok(n),
+        Some(_) => Err(bad_word(3, UsageKind::ExtraWord)),
+    }
+}
+
+/// The number that a word writes.
+fn number_of(word: &str) -> Option<u64>
+    ensures { result ≡ number_of word.now }
+{
+    if !is_number(word.as_bytes()) {
+        return None;
+    }
+    match word.parse::<u64>() {
+        Ok(n) => Some(n),
+        Err(_) => None,
+    }
+}
+
+/// Decimal digits, without leading zeros unless the number is 0.
+fn is_number(word: &[u8]) -> bool
+    ensures { result ≡ is_number word.now }
+{
+    !word.is_empty() && all_decimal(word) && (word.len() == 1 || word[0] != b'0')
 }

@@ -1,12 +1,13 @@
 // The command `request`: the licence request for initialization data, or the rejection.
-ghost use Rattle.std.specs.Prelude.{◌≡◌, IfOk, IfSome, IsSome};
+ghost use Rattle.std.specs.Prelude.{IfOk, IfSome, IsSome};
 ghost use Rattle.init_data.specs.InitData.{kids_of};
-ghost use Rattle.player_cli.specs.MediaForm.{hex_bytes};
-ghost use Rattle.player_cli.specs.Answered.{IsAnswer, SayingSays, RequestSays};
+ghost use Rattle.player_cli.specs.Command.{hex_bytes};
+ghost use Rattle.player_cli.specs.Answered.{IsAnswer, RequestSays};
 
 use crate::outcome::Outcome;
+use crate::say::say_text;
 use clearkey_json::request_text;
-use eme_edge::{Shelf, ShelfFault};
+use eme_edge::Shelf;
 use eme_types::{Bytes, InitKind};
 use init_data::{InitFault, kids_of};
 use std::alloc::{AllocError, Global};
@@ -27,18 +28,8 @@ fn answer_text(alloc: Global, kind: InitKind, bytes: &[u8]) -> Result<Bytes, All
     }
 }
 
-fn say_text<S: Shelf>(text: &[u8], shelf: &mut S) -> Outcome
-    ensures { SayingSays result (S.state shelf.old) (S.state shelf.new) text.now }
-{
-    match shelf.say(text) {
-        Ok(()) => Outcome::Done,
-        Err(ShelfFault::Failed) => Outcome::WriteFault,
-        Err(ShelfFault::OutOfMemory) => Outcome::OutOfMemory,
-    }
-}
-
 /// Says the answer to a request for initialization data of that type, given in hexadecimal digits.
-#[tactic(auto, unfolding(crate::specs::MediaForm::hex_bytes))]
+#[tactic(auto, unfolding(crate::specs::Command::hex_bytes))]
 pub fn answer<S: Shelf>(alloc: Global, kind: InitKind, hex: &str, shelf: &mut S) -> Outcome
     requires { IsSome (hex_bytes hex.now) }
     ensures { IfSome (hex_bytes hex.now) (λ bytes. RequestSays result (S.state shelf.old) (S.state shelf.new) kind bytes) }

@@ -1,6 +1,8 @@
 // The words of the command line.
 ghost use Rattle.std.specs.Prelude.{◌≡◌, [], ◌∷◌, map, string_bytes, MatchOption, MatchResult, IfOk, Ok, Err};
-ghost use Rattle.player_cli.specs.Command.{command, quiet_command, play_words, play_end, IsAsked, names_of};
+ghost use Rattle.std.specs.Char.{is_ascii_digit};
+ghost use Rattle.std.specs.List.{list_all};
+ghost use Rattle.player_cli.specs.Command.{command, quiet_command, play_words, media_words, prefix_words, play_end, is_ending, clashes, IsAsked, names_of};
 
 use crate::outcome::{UsageFault, UsageKind};
 
@@ -46,12 +48,47 @@ pub fn read_play(words: &[String]) -> Result<PlayWords<'_>, UsageFault>
     let Some((script, rest)) = next_word(words) else {
         return Err(bad_word(2, UsageKind::MissingWord));
     };
-    let Some((media, rest)) = next_word(rest) else {
+    if script.is_empty() {
+        return Err(bad_word(2, UsageKind::EmptyName));
+    }
+    read_media_words(script, rest)
+}
+
+/// Reads the words behind the name of the script.
+fn read_media_words<'a>(script: &'a str, words: &'a [String]) -> Result<PlayWords<'a>, UsageFault>
+    ensures asked { MatchResult result (IsAsked (media_words script.now (map string_bytes words.now))) (λ e. media_words script.now (map string_bytes words.now) ≡ Err e) }
+    ensures alone { IfOk result (λ w. w.workers ≡ 0) }
+{
+    let Some((media, rest)) = next_word(words) else {
         return Err(bad_word(3, UsageKind::MissingWord));
     };
-    let Some((prefix, rest)) = next_word(rest) else {
+    if media.is_empty() {
+        return Err(bad_word(3, UsageKind::EmptyName));
+    }
+    read_prefix_words(script, media, rest)
+}
+
+/// Reads the words behind the names of both files.
+fn read_prefix_words<'a>(
+    script: &'a str,
+    media: &'a str,
+    words: &'a [String],
+) -> Result<PlayWords<'a>, UsageFault>
+    ensures asked { MatchResult result (IsAsked (prefix_words script.now media.now (map string_bytes words.now))) (λ e. prefix_words script.now media.now (map string_bytes words.now) ≡ Err e) }
+    ensures alone { IfOk result (λ w. w.workers ≡ 0) }
+{
+    let Some((prefix, rest)) = next_word(words) else {
         return Err(bad_word(4, UsageKind::MissingWord));
     };
+    if prefix.is_empty() {
+        return Err(bad_word(4, UsageKind::EmptyName));
+    }
+    if clashes(prefix, script) {
+        return Err(bad_word(4, UsageKind::NameClash));
+    }
+    if clashes(prefix, media) {
+        return Err(bad_word(4, UsageKind::NameClash));
+    }
     match end_fault(rest) {
         Some(fault) => Err(fault),
         None => Ok(PlayWords {
@@ -61,6 +98,39 @@ pub fn read_play(words: &[String]) -> Result<PlayWords<'_>, UsageFault>
             workers: 0,
         }),
     }
+}
+
+/// Whether the name may be that of a file that the play writes.
+fn clashes(prefix: &str, name: &str) -> bool
+    ensures { result ≡ clashes prefix.now name.now }
+{
+    let Some(rest) = name.as_bytes().strip_prefix(prefix.as_bytes()) else {
+        return false;
+    };
+    match rest.strip_prefix(b".") {
+        None => false,
+        Some(text) => is_ending(text),
+    }
+}
+
+/// Whether the text is `log`, or digits alone.
+fn is_ending(text: &[u8]) -> bool
+    ensures { result ≡ is_ending text.now }
+{
+    if text == b"log".as_slice() {
+        return true;
+    }
+    if text.is_empty() {
+        return false;
+    }
+    all_decimal(text)
+}
+
+/// Whether the text is decimal digits alone.
+pub fn all_decimal(text: &[u8]) -> bool
+    ensures { result ≡ list_all is_ascii_digit text.now }
+{
+    text.iter().all(|byte| byte.is_ascii_digit())
 }
 
 /// What is wrong behind the prefix.

@@ -17,7 +17,7 @@ use Rattle.script_lang.specs.declared.script.Action.{Action}
 use Rattle.script_lang.specs.declared.script.Action.TheVariants.{Ask, Feed as FeedAction, Clock, Settle as SettleAction}
 use Rattle.script_lang.specs.Script.{IsScript, lane_fits, moment_fits, moment_after}
 use Rattle.cdm_state.specs.Run.{Run}
-use Rattle.cdm_state.specs.History.{world, AtRest, MayFeedNext}
+use Rattle.cdm_state.specs.History.{world, IsLegal, AtRest, MayFeedNext}
 use Rattle.cdm_state.specs.Law.{MomentIsOfLastTick}
 use Rattle.cdm_state.specs.Moment.{tick_to}
 use Rattle.cdm_state.specs.Progress.{NoneWaits}
@@ -25,7 +25,8 @@ use Rattle.output_order.specs.Lane.{line_with, line_of, lines_in, lane, asked, a
 use Rattle.output_order.specs.Complete.{HasLane, IsOfLine, feed_rest, implied, IsComplete}
 use Rattle.output_order.specs.Staffed.{NamesWorker, times_given_up, IsStaffed}
 use Rattle.output_order.proofs.Sizes.{taken_more, something_at, nothing_at, some_same}
-use Rattle.player_core.specs.Course.{IsBuiltAction, IsBuiltLine, IsBuiltScript, entry_for, entry_of, IsAlone, Goes, Settles, MayGo, next_after, next_by, moment_by, moment_of, HasFed, HasGone, HasFollowed}
+use Rattle.player_core.specs.Alone.{AreInTurn, IsAlone}
+use Rattle.player_core.specs.Course.{entry_for, entry_of, IsOfOneThread, Goes, Settles, MayGo, next_after, next_by, moment_by, moment_of, HasFed, HasGone, HasFollowed}
 use Rattle.player_core.proofs.Steps.{all_append}
 use Rattle.player_core.proofs.Added.{lines_added, asked_added, ticks_added, feeds_asked, no_times_given_up}
 use Rattle.player_core.proofs.Scripts.{both_true, number_above_0, lane_fits_at, moment_fits_at}
@@ -36,14 +37,14 @@ all_at P [] n x all at = absurd cc
 all_at P (y ∷ xs) zero x all at = subst P (some_same at) all.0
 all_at P (y ∷ xs) (suc n) x all at = all_at P xs n x all.1 at
 
-abbrev line_as : ℕ → ℕ → Action → Line
+abbrev pub line_as : ℕ → ℕ → Action → Line
 line_as number lane action = record { number = number; lane = lane; action = action }
 
 not_0 : (number : ℕ) → number ≢ 0 → (number == 0) ≡ false
 not_0 zero above = absurd (above refl)
 not_0 (suc n) above = eqb-suc-zero n
 
-line_above : (number lane : ℕ) (action : Action) → number ≢ 0 → line_with number lane action ≡ line_as number lane action ∷ []
+pub line_above : (number lane : ℕ) (action : Action) → number ≢ 0 → line_with number lane action ≡ line_as number lane action ∷ []
 line_above number lane action above =
     let pick : Bool → List Line = λ b. if b then [] else line_as number lane action ∷ [] in
     ap pick (not_0 number above)
@@ -77,25 +78,25 @@ ticks_back last number lane (Clock moment) given = refl
 ticks_back last number lane SettleAction given = refl
 
 fed_back : (media : Media) (next : ℕ) (old new : Run) (number lane : ℕ) (action : Action) → IsTrue (lane_fits lane action) → Goes old new (entry_for number lane action (slice_get media.fragments next)) → HasFed media next old → HasFed media (next_by next action (slice_get media.fragments next)) new
-fed_back media next old new number lane (Ask call) fits g fed = fed_kept media next old new (Call lane number call) g refl refl refl (leb-true lane 7 fits) fed
+fed_back media next old new number lane (Ask call) fits g fed = fed_kept media next old new (Call lane number call) g refl refl refl refl (leb-true lane 7 fits) fed
 fed_back media next old new number lane FeedAction fits g fed = fed_more media next old new number g fed
-fed_back media next old new number lane (Clock moment) fits g fed = fed_kept media next old new (Tick number moment) g refl refl refl tt fed
-fed_back media next old new number lane SettleAction fits g fed = fed_kept media next old new (Settle number) g refl refl refl tt fed
+fed_back media next old new number lane (Clock moment) fits g fed = fed_kept media next old new (Tick number moment) g refl refl refl refl tt fed
+fed_back media next old new number lane SettleAction fits g fed = fed_kept media next old new (Settle number) g refl refl refl refl tt fed
 
 -- the tracks of a play are distinct
 pub fed_distinct : (media : Media) (next : ℕ) (r : Run) → IsFed media → HasFed media next r → IsTrue (are_distinct r.tracks)
 fed_distinct media next r m fed = ap are_distinct fed.tracks ∙ m.distinct
 
-may_do : (r : Run) (now : ℕ) (action : Action) (given : Option Fragment) → IsBuiltAction action → MayFeedNext r.tracks r.history given → NoneWaits r.history → IsTrue (are_distinct r.tracks) → (world r.tracks r.history).machine.moment ≡ now → IsTrue (moment_fits now action) → MayGo r action given
-may_do r now (Ask call) given built may none distinct is fits = built
-may_do r now FeedAction given built may none distinct is fits = may
-may_do r now (Clock moment) given built may none distinct is fits = subst (λ n. n ≤ moment) (sym is) (leb-true now moment (both_true (nat_le now moment) (nat_le moment (2 ^ 53)) fits).0)
-may_do r now SettleAction given built may none distinct is fits = (none, distinct)
+may_do : (r : Run) (now : ℕ) (action : Action) (given : Option Fragment) → MayFeedNext r.tracks r.history given → NoneWaits r.history → IsTrue (are_distinct r.tracks) → (world r.tracks r.history).machine.moment ≡ now → IsTrue (moment_fits now action) → MayGo r action given
+may_do r now (Ask call) given may none distinct is fits = tt
+may_do r now FeedAction given may none distinct is fits = may
+may_do r now (Clock moment) given may none distinct is fits = subst (λ n. n ≤ moment) (sym is) (leb-true now moment (both_true (nat_le now moment) (nat_le moment (2 ^ 53)) fits).0)
+may_do r now SettleAction given may none distinct is fits = (none, distinct)
 
 -- what the next line needs is there
-pub may_go : (script : List Line) (media : Media) (n next : ℕ) (r : Run) (line : Line) → MomentIsOfLastTick → IsScript script → IsBuiltScript script → IsFed media → slice_get script n ≡ Some line → HasGone script media n next r → MayGo r line.action (slice_get media.fragments next)
-may_go script media n next r line law s built m at gone =
-    may_do r (moment_of (take n script)) line.action (slice_get media.fragments next) (all_at IsBuiltLine script n line built at) (may_feed media next r m gone.fed) gone.fed.delivered (fed_distinct media next r m gone.fed) (law r.tracks r.history ∙ gone.moment) (moment_fits_at script n line s at)
+pub may_go : (script : List Line) (media : Media) (n next : ℕ) (r : Run) (line : Line) → MomentIsOfLastTick → IsScript script → IsFed media → slice_get script n ≡ Some line → HasGone script media n next r → MayGo r line.action (slice_get media.fragments next)
+may_go script media n next r line law s m at gone =
+    may_do r (moment_of (take n script)) line.action (slice_get media.fragments next) (may_feed media next r m gone.fed) gone.fed.delivered (fed_distinct media next r m gone.fed) (law r.tracks r.history ∙ gone.moment) (moment_fits_at script n line s at)
 
 -- one line on
 pub gone_more : (script : List Line) (media : Media) (n next : ℕ) (old new : Run) (line : Line) → IsScript script → slice_get script n ≡ Some line → Goes old new (entry_of line (slice_get media.fragments next)) → HasGone script media n next old → HasGone script media (n + 1) (next_by next line.action (slice_get media.fragments next)) new
@@ -130,6 +131,8 @@ gone_none script media r is =
         bytes = refl;
         alone = tt;
         delivered = λ place u. nothing_there (place - 1) (Claim u.worker u.track u.index u.session u.kid) u.at.1;
+        turns = record { each = λ n e at. absurd (nothing_there n e at) };
+        last = λ e at. absurd (nothing_there (0 - 1) e at.1);
       };
       lines = refl;
       above = tt;
@@ -145,7 +148,7 @@ followed_first script media next old new s gone =
     let many : length (feeds_in before) ≡ length (feeds_in old.history) = ap length (feeds_asked old.history) in
     let left : drop (length (feeds_in before)) media.fragments ≡ drop next media.fragments = ap (λ n. drop n media.fragments) many ∙ gone.fed.left in
     record {
-      fed = fed_kept media next old new (Settle 0) g refl refl refl tt gone.fed;
+      fed = fed_kept media next old new (Settle 0) g refl refl refl refl tt gone.fed;
       lines = lines_added old new (Settle 0) g ∙ (append-nil (lines_in old.history) ∙ (gone.lines ∙ take_all (length script) script (let le : length script ≤ length script = omega arith in le)));
       before = before;
       above = gone.above;
@@ -170,7 +173,7 @@ followed_with script media next old mid new f at g s followed =
     let asked_mid : asked_in mid.history ≡ asked_in old.history ++ Feed 0 (Some f) ∷ [] = asked_added old mid (Feed 0 given) g ∙ ap (λ x. asked_in old.history ++ Feed 0 x ∷ []) at in
     let after : next_after next given ≡ next + 1 = ap (next_after next) at in
     record {
-      fed = fed_kept media (next_after next given) mid new (Settle 0) s.goes refl refl refl tt fed;
+      fed = fed_kept media (next_after next given) mid new (Settle 0) s.goes refl refl refl refl tt fed;
       lines = lines_added mid new (Settle 0) s.goes ∙ (append-nil (lines_in mid.history) ∙ (lines_added old mid (Feed 0 given) g ∙ (append-nil (lines_in old.history) ∙ followed.lines)));
       before = followed.before;
       above = followed.above;
@@ -193,7 +196,7 @@ grows_given fragments next (Some f) at lt = refl
 pub next_grows : (fragments : List Fragment) (next : ℕ) → next < length fragments → next_after next (slice_get fragments next) ≡ next + 1
 next_grows fragments next lt = grows_given fragments next (slice_get fragments next) refl lt
 
-alone_lane : (e : Entry) → IsAlone e → HasLane e
+alone_lane : (e : Entry) → IsOfOneThread e → HasLane e
 alone_lane (Call lane line call) a = a
 alone_lane Job a = tt
 alone_lane Task a = tt
@@ -207,7 +210,7 @@ alone_lane (PassClear track index) a = tt
 alone_lane (WaitForKey track) a = tt
 alone_lane (Settle line) a = tt
 
-alone_worker : (e : Entry) → IsAlone e → NamesWorker 0 e
+alone_worker : (e : Entry) → IsOfOneThread e → NamesWorker 0 e
 alone_worker (Call lane line call) a = tt
 alone_worker Job a = tt
 alone_worker Task a = tt
@@ -228,7 +231,7 @@ is_complete script media r followed =
     let none : drop (length fragments) fragments ≡ [] = drop_all (length fragments) fragments (let le : length fragments ≤ length fragments = omega arith in le) in
     record {
       lanes = λ i few. ap (λ lines. lane lines i) followed.lines;
-      known = λ n e at. alone_lane e (all_at IsAlone r.history n e followed.fed.alone at);
+      known = λ n e at. alone_lane e (all_at IsOfOneThread r.history n e followed.fed.alone at);
       feeds = record { each = followed.fed.feeds; all = followed.fed.passed };
       implied = record {
         lines = followed.before;
@@ -238,10 +241,20 @@ is_complete script media r followed =
       rest = subst (λ ids. AtRest (world ids r.history)) followed.fed.tracks followed.rest;
     }
 
+-- and it is that of the alone order
+pub is_alone : (script : List Line) (media : Media) (r : Run) → IsLegal r.tracks r.history → HasFollowed script media (length media.fragments) r → IsAlone script media r.history
+is_alone script media r legal followed = record {
+  legal = subst (λ ids. IsLegal ids r.history) followed.fed.tracks legal;
+  complete = is_complete script media r followed;
+  order = followed.lines;
+  turns = subst (λ ids. AreInTurn ids r.history) followed.fed.tracks followed.fed.turns;
+  last = followed.fed.last;
+}
+
 -- and one thread has made it
-pub is_staffed : (r : Run) → AllByRecursion IsAlone r.history → IsStaffed 0 r.history
+pub is_staffed : (r : Run) → AllByRecursion IsOfOneThread r.history → IsStaffed 0 r.history
 is_staffed r alone = record {
-  named = λ n e at. alone_worker e (all_at IsAlone r.history n e alone at);
+  named = λ n e at. alone_worker e (all_at IsOfOneThread r.history n e alone at);
   none_of_0 = no_times_given_up r.history 0 r.history alone;
   one_each = λ worker. let none : times_given_up r.history worker ≡ 0 = no_times_given_up r.history worker r.history alone in omega (arith, none);
 }

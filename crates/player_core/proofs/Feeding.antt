@@ -11,17 +11,17 @@ use Rattle.eme_types.specs.declared.entry.Entry.TheVariants.{Feed}
 use Rattle.eme_types.specs.Fed.{IsFed, are_known, are_well_formed, fragment_samples, fragment_bytes, max_samples, max_bytes}
 use Rattle.cdm_state.specs.Run.{Run}
 use Rattle.cdm_state.specs.History.{MayFeedNext, samples_in, bytes_in, fed_samples, fed_bytes, fed_samples_of, fed_bytes_of}
-use Rattle.output_order.specs.Lane.{feeds_in, fed_by}
+use Rattle.output_order.specs.Lane.{asked, feeds_in, fed_by}
 use Rattle.output_order.specs.Complete.{FeedsBegun}
 use Rattle.output_order.proofs.Sizes.{nothing_at, something_at, sum_by_at, some_same}
-use Rattle.player_core.specs.Course.{IsAlone, Goes, next_after, HasFed}
-use Rattle.player_core.proofs.Added.{tracks_kept, feeds_added, samples_added, bytes_added, alone_added}
+use Rattle.player_core.specs.Course.{IsOfOneThread, Goes, next_after, HasFed}
+use Rattle.player_core.proofs.Added.{tracks_kept, feeds_added, samples_added, bytes_added, alone_added, last_added}
 use Rattle.player_core.proofs.Scripts.{all_true_at}
 use Rattle.player_core.proofs.Steps.{push_cases}
 
 -- an entry that feeds nothing
-pub fed_kept : (media : Media) (next : ℕ) (old new : Run) (e : Entry) → Goes old new e → fed_by e ≡ [] → fed_samples_of e ≡ 0 → fed_bytes_of e ≡ 0 → IsAlone e → HasFed media next old → HasFed media next new
-fed_kept media next old new e g feeds samples bytes alone fed =
+pub fed_kept : (media : Media) (next : ℕ) (old new : Run) (e : Entry) → Goes old new e → fed_by e ≡ [] → fed_samples_of e ≡ 0 → fed_bytes_of e ≡ 0 → asked e ≡ e ∷ [] → IsOfOneThread e → HasFed media next old → HasFed media next new
+fed_kept media next old new e g feeds samples bytes is alone fed =
     let same : feeds_in new.history ≡ feeds_in old.history = feeds_added old new e g ∙ (ap (λ xs. feeds_in old.history ++ xs) feeds ∙ append-nil (feeds_in old.history)) in
     let samples_are : fed_samples new.history ≡ fed_samples old.history + fed_samples_of e = samples_added old new e g in
     let bytes_are : fed_bytes new.history ≡ fed_bytes old.history + fed_bytes_of e = bytes_added old new e g in
@@ -37,6 +37,8 @@ fed_kept media next old new e g feeds samples bytes alone fed =
       bytes = omega (arith, bytes_are, bytes_were, bytes);
       alone = alone_added old new e g fed.alone alone;
       delivered = g.delivered fed.delivered;
+      turns = g.turns fed.last fed.turns;
+      last = last_added old new e g is;
     }
 
 slice_get-drop : {A : Type 0} (xs : List A) (n : ℕ) → slice_get xs n ≡ slice_get (drop n xs) 0
@@ -97,6 +99,8 @@ fed_more media next old new line g fed =
       bytes = bytes_are ∙ (ap (λ n. n + bytes_in given) fed.bytes ∙ bytes_after fragments next given refl);
       alone = alone_added old new (Feed line given) g fed.alone tt;
       delivered = g.delivered fed.delivered;
+      turns = g.turns fed.last fed.turns;
+      last = last_added old new (Feed line given) g refl;
     }
 
 sum_within : (f : Fragment → ℕ) (fragments : List Fragment) (next : ℕ) (x : Fragment) → slice_get fragments next ≡ Some x → sum_by f (take next fragments) + f x ≤ sum_by f fragments

@@ -1,5 +1,12 @@
+pub mod Turns
 pub mod Steps
 pub mod Added
 pub mod Scripts
 pub mod Feeding
 pub mod Courses
+pub mod Inspects
+pub mod Demos
+pub mod OneLive
+pub mod Next
+pub mod Asked
+pub mod TheOne

@@ -1,5 +1,5 @@
 -- Steps, one after the other.
-use Rattle.std.proofs.Common.{zero, suc, ◌≡◌, ℕ, ◌+◌, ◌-◌, List, [], ◌∷◌, ◌++◌, Some, length, slice_get, inl, inr, refl, ap, ◌∙◌, sym, subst, append_assoc, append-nil, arith}
+use Rattle.std.proofs.Common.{zero, suc, ◌≡◌, ℕ, ◌+◌, ◌-◌, List, [], ◌∷◌, ◌++◌, Some, length, slice_get, inl, inr, refl, ap, ◌∙◌, sym, subst, append_assoc, append-nil, length-append, arith}
 use Rattle.std.specs.Prelude.{◌⊎◌}
 use Rattle.std.specs.List.{AllByRecursion}
 use Rattle.std.proofs.lemmas.List.Sums.{fold-append}
@@ -7,14 +7,17 @@ use Rattle.eme_types.specs.declared.entry.Entry.{Entry}
 use Rattle.eme_types.specs.declared.entry.Entry.TheVariants.{Claim, Deliver, Settle}
 use Rattle.eme_types.specs.declared.entry.Verdict.{Verdict}
 use Rattle.eme_types.specs.declared.entry.Verdict.TheVariants.{Taken as TakenVerdict, Stale as StaleVerdict}
-use Rattle.cdm_state.specs.declared.claim.Delivered.{Delivered}
-use Rattle.cdm_state.specs.declared.claim.Delivered.TheVariants.{Taken, Stale}
+use Rattle.key_claims.specs.declared.claim.Delivered.{Delivered}
+use Rattle.key_claims.specs.declared.claim.Delivered.TheVariants.{Taken, Stale}
 use Rattle.cdm_state.specs.Contract.{Delivers}
-use Rattle.cdm_state.specs.World.{empty_world, after_entry}
+use Rattle.key_sessions.specs.World.{empty_world}
+use Rattle.cdm_state.specs.After.{after_entry}
 use Rattle.cdm_state.specs.History.{world, AtRest, Undelivered, MayClaim, MayPublish, MayPassClear, MayWait}
 use Rattle.cdm_state.specs.Run.{Run, with_entry}
 use Rattle.cdm_state.specs.Progress.{NoneWaits, NothingToDo}
+use Rattle.player_core.specs.Alone.{LastAsked, InTurn, AreInTurn}
 use Rattle.player_core.specs.Course.{IsStep, more_history, Steps, Goes, Settles}
+use Rattle.player_core.proofs.Turns.{turns_more}
 
 pub all_append : {X : Type 0} (P : X → Type 0) (xs ys : List X) → AllByRecursion P xs → AllByRecursion P ys → AllByRecursion P (xs ++ ys)
 all_append P [] ys a b = b
@@ -85,12 +88,17 @@ delivered_in : (old mid new : Run) (e : Entry) → mid ≡ old → new ≡ with_
 delivered_in old mid new e same is plain none =
     subst (λ (r : Run). NoneWaits r.history) (sym (is ∙ ap (λ (r : Run). with_entry r e) same)) (none_waits old.history e plain none)
 
-pub step_one : (old mid new : Run) (e : Entry) → mid ≡ old → new ≡ with_entry mid e → IsStep e → IsPlain e → Steps old new
-step_one old mid new e same is one plain = record {
+turns_in : (old mid new : Run) (e : Entry) → mid ≡ old → new ≡ with_entry mid e → InTurn old.tracks old.history e → AreInTurn old.tracks old.history → AreInTurn new.tracks new.history
+turns_in old mid new e same is turn all =
+    subst (λ (r : Run). AreInTurn r.tracks r.history) (sym (is ∙ ap (λ (r : Run). with_entry r e) same)) (turns_more old.tracks old.history e all turn)
+
+pub step_one : (old mid new : Run) (e : Entry) → mid ≡ old → new ≡ with_entry mid e → IsStep e → IsPlain e → InTurn old.tracks old.history e → Steps old new
+step_one old mid new e same is one plain turn = record {
   taken = e ∷ [];
   is = is ∙ ap (λ (r : Run). with_entry r e) same;
   steps = (one, tt);
   delivered = delivered_in old mid new e same is plain;
+  turns = λ all. turns_in old mid new e same is turn all;
 }
 
 pub steps_none : (r : Run) → Steps r r
@@ -99,6 +107,7 @@ steps_none r = record {
   is = ap (λ (h : List Entry). let s : Run = record r { history = h } in s) (sym (append-nil r.history));
   steps = tt;
   delivered = λ none. none;
+  turns = λ all. all;
 }
 
 pub steps_more : (old mid new : Run) → Steps old mid → Steps mid new → Steps old new
@@ -107,11 +116,12 @@ steps_more old mid new a b = record {
   is = b.is ∙ (ap (λ (r : Run). more_history r b.taken) a.is ∙ more_twice old a.taken b.taken);
   steps = all_append IsStep a.taken b.taken a.steps b.steps;
   delivered = λ none. b.delivered (a.delivered none);
+  turns = λ all. b.turns (a.turns all);
 }
 
 -- a claim and its delivery
-two_steps : (old mid claimed new : Run) (e : Entry) (place : ℕ) (verdict : Verdict) → mid ≡ old → claimed ≡ with_entry mid e → new ≡ with_entry claimed (Deliver place verdict) → place ≡ length mid.history + 1 → IsStep e → Steps old new
-two_steps old mid claimed new e place verdict same is then here one =
+two_steps : (old mid claimed new : Run) (e : Entry) (place : ℕ) (verdict : Verdict) → mid ≡ old → claimed ≡ with_entry mid e → new ≡ with_entry claimed (Deliver place verdict) → place ≡ length mid.history + 1 → IsStep e → InTurn old.tracks old.history e → Steps old new
+two_steps old mid claimed new e place verdict same is then here one turn =
     let all : new ≡ with_entry (with_entry old e) (Deliver place verdict) = then ∙ ap (λ (r : Run). with_entry r (Deliver place verdict)) (is ∙ ap (λ (r : Run). with_entry r e) same) in
     let at : place ≡ length old.history + 1 = here ∙ ap (λ (r : Run). length r.history + 1) same in
     record {
@@ -119,40 +129,44 @@ two_steps old mid claimed new e place verdict same is then here one =
       is = all ∙ more_twice old (e ∷ []) (Deliver place verdict ∷ []);
       steps = (one, (tt, tt));
       delivered = λ none. subst (λ (r : Run). NoneWaits r.history) (sym all) (both_wait old.history e place verdict at none);
+      turns = λ before. subst (λ (r : Run). AreInTurn r.tracks r.history) (sym all) (turns_more old.tracks (old.history ++ e ∷ []) (Deliver place verdict) (turns_more old.tracks old.history e before turn) (at ∙ sym (length-append old.history (e ∷ []))));
     }
 
-pub claim_steps : (old mid claimed new : Run) (e : Entry) (place : ℕ) (clear : List ℕ) (how : Delivered) → mid ≡ old → claimed ≡ with_entry mid e → place ≡ length mid.history + 1 → IsStep e → Delivers claimed place clear how new → Steps old new
-claim_steps old mid claimed new e place clear Taken same is here one did = two_steps old mid claimed new e place TakenVerdict same is did.1 here one
-claim_steps old mid claimed new e place clear (Stale back) same is here one did = two_steps old mid claimed new e place StaleVerdict same is did.1 here one
+pub claim_steps : (old mid claimed new : Run) (e : Entry) (place : ℕ) (clear : List ℕ) (how : Delivered) → mid ≡ old → claimed ≡ with_entry mid e → place ≡ length mid.history + 1 → IsStep e → InTurn old.tracks old.history e → Delivers claimed place clear how new → Steps old new
+claim_steps old mid claimed new e place clear Taken same is here one turn did = two_steps old mid claimed new e place TakenVerdict same is did.1 here one turn
+claim_steps old mid claimed new e place clear (Stale back) same is here one turn did = two_steps old mid claimed new e place StaleVerdict same is did.1 here one turn
 
-pub goes_now : (old mid new : Run) (e : Entry) → mid ≡ old → new ≡ with_entry mid e → IsPlain e → Goes old new e
-goes_now old mid new e same is plain = record {
+pub goes_now : (old mid new : Run) (e : Entry) → mid ≡ old → new ≡ with_entry mid e → IsPlain e → (LastAsked old.history → InTurn old.tracks old.history e) → Goes old new e
+goes_now old mid new e same is plain turn = record {
   taken = [];
   is = is ∙ ap (λ (r : Run). with_entry r e) same;
   steps = tt;
   delivered = delivered_in old mid new e same is plain;
+  turns = λ last all. turns_in old mid new e same is (turn last) all;
 }
 
-pub goes_after : (old mid new : Run) (e : Entry) → Steps old mid → Goes mid new e → Goes old new e
-goes_after old mid new e a b = record {
+goes_after : (old mid new : Run) (e : Entry) → Steps old mid → Goes mid new e → (AreInTurn mid.tracks mid.history → AreInTurn new.tracks new.history) → Goes old new e
+goes_after old mid new e a b turns = record {
   taken = a.taken ++ b.taken;
   is = b.is ∙ (ap (λ (r : Run). more_history r (b.taken ++ e ∷ [])) a.is ∙ (more_twice old a.taken (b.taken ++ e ∷ []) ∙ ap (λ es. more_history old es) (sym (append_assoc a.taken b.taken (e ∷ [])))));
   steps = all_append IsStep a.taken b.taken a.steps b.steps;
   delivered = λ none. b.delivered (a.delivered none);
+  turns = λ last all. turns (a.turns all);
 }
 
 world_settled : (ids : List ℕ) (h : List Entry) (line : ℕ) → world ids (h ++ Settle line ∷ []) ≡ world ids h
 unfolding world
 world_settled ids h line = fold-append after_entry (empty_world ids) h (Settle line ∷ [])
 
-pub settles_now : (old mid new : Run) (line : ℕ) → mid ≡ old → new ≡ with_entry mid (Settle line) → AtRest (world mid.tracks mid.history) → Settles old new line
-settles_now old mid new line same is rest = record {
-  goes = goes_now old mid new (Settle line) same is (λ w t i n k x. cc);
-  rest = subst (λ (r : Run). AtRest (world r.tracks r.history)) (sym is) (subst AtRest (sym (world_settled mid.tracks mid.history line)) rest);
+pub settles_now : (old new : Run) (line : ℕ) → new ≡ with_entry old (Settle line) → AtRest (world old.tracks old.history) → NoneWaits old.history → NothingToDo old.tracks old.history → Settles old new line
+settles_now old new line is rest none idle = record {
+  goes = goes_now old old new (Settle line) refl is (λ w t i n k x. cc) (λ last. (none, idle));
+  turns = λ all. turns_in old old new (Settle line) refl is (none, idle) all;
+  rest = subst (λ (r : Run). AtRest (world r.tracks r.history)) (sym is) (subst AtRest (sym (world_settled old.tracks old.history line)) rest);
 }
 
 pub settles_after : (old mid new : Run) (line : ℕ) → Steps old mid → Settles mid new line → Settles old new line
-settles_after old mid new line a b = record { goes = goes_after old mid new (Settle line) a b.goes; rest = b.rest }
+settles_after old mid new line a b = record { goes = goes_after old mid new (Settle line) a b.goes b.turns; turns = λ all. b.turns (a.turns all); rest = b.rest }
 
 pub settles_same : (old mid new : Run) (line : ℕ) → mid ≡ old → Settles mid new line → Settles old new line
 settles_same old mid new line same s = subst (λ (r : Run). Settles r new line) same s

@@ -10,27 +10,13 @@ use Rattle.script_lang.specs.declared.script.Line.{Line}
 use Rattle.script_lang.specs.declared.script.Action.{Action}
 use Rattle.script_lang.specs.declared.script.Action.TheVariants.{Ask, Feed as FeedAction, Clock, Settle as SettleAction}
 use Rattle.script_lang.specs.Script.{moment_after}
-use Rattle.cdm_state.specs.Calls.{IsBuilt}
 use Rattle.cdm_state.specs.Run.{Run}
 use Rattle.cdm_state.specs.History.{world, AtRest, MayFeedNext, fed_samples, fed_bytes}
 use Rattle.cdm_state.specs.Moment.{last_moment}
 use Rattle.cdm_state.specs.Progress.{NoneWaits}
 use Rattle.output_order.specs.Lane.{lines_in, asked_in, feeds_in}
 use Rattle.output_order.specs.Complete.{FeedsBegun, IsOfLine, feed_rest, implied}
-
--- the action is built; negotiation of access is to come
-abbrev pub IsBuiltAction : Action → Type 0
-IsBuiltAction (Ask call) = IsBuilt call
-IsBuiltAction FeedAction = Unit {0}
-IsBuiltAction (Clock moment) = Unit {0}
-IsBuiltAction SettleAction = Unit {0}
-
-abbrev pub IsBuiltLine : Line → Type 0
-IsBuiltLine line = IsBuiltAction line.action
-
--- the script asks for nothing that is not built
-abbrev pub IsBuiltScript : List Line → Type 0
-IsBuiltScript script = AllByRecursion IsBuiltLine script
+use Rattle.player_core.specs.Alone.{LastAsked, AreInTurn}
 
 -- the entry of an action; a feed gives the fragment
 abbrev pub entry_for : ℕ → ℕ → Action → Option Fragment → Entry
@@ -61,28 +47,31 @@ IsStep (Settle line) = ⊥
 abbrev pub more_history : Run → List Entry → Run
 more_history r es = record r { history = r.history ++ es }
 
--- steps were taken, each claim with its delivery
+-- steps were taken in turn, each claim with its delivery
 pub record Steps (old new : Run) : Type 0 where
   pub taken : List Entry
   pub is : new ≡ more_history old taken
   pub steps : AllByRecursion IsStep taken
   pub delivered : NoneWaits old.history → NoneWaits new.history
+  pub turns : AreInTurn old.tracks old.history → AreInTurn new.tracks new.history
 
--- steps were taken, each claim with its delivery, and then the entry came
+-- steps were taken, each claim with its delivery, and then the entry came; all in turn, where no step was taken since the last line
 pub record Goes (old new : Run) (entry : Entry) : Type 0 where
   pub taken : List Entry
   pub is : new ≡ more_history old (taken ++ entry ∷ [])
   pub steps : AllByRecursion IsStep taken
   pub delivered : NoneWaits old.history → NoneWaits new.history
+  pub turns : LastAsked old.history → AreInTurn old.tracks old.history → AreInTurn new.tracks new.history
 
--- steps, and then the settle of a line, after which the core is at rest
+-- steps, and then the settle of a line, after which the core is at rest; all in turn
 pub record Settles (old new : Run) (line : ℕ) : Type 0 where
   pub goes : Goes old new (Settle line)
+  pub turns : AreInTurn old.tracks old.history → AreInTurn new.tracks new.history
   pub rest : AtRest (world new.tracks new.history)
 
 -- what the action needs; `given` is what a feed gives
 abbrev pub MayGo : Run → Action → Option Fragment → Type 0
-MayGo r (Ask call) given = IsBuilt call
+MayGo r (Ask call) given = Unit {0}
 MayGo r FeedAction given = MayFeedNext r.tracks r.history given
 MayGo r (Clock moment) given = (world r.tracks r.history).machine.moment ≤ moment
 MayGo r SettleAction given = NoneWaits r.history × IsTrue (are_distinct r.tracks)
@@ -107,19 +96,19 @@ abbrev pub moment_of : List Line → ℕ
 moment_of lines = fold moment_by 0 lines
 
 -- an entry that a play on one thread may have
-abbrev pub IsAlone : Entry → Type 0
-IsAlone (Call lane line call) = lane ≤ 7
-IsAlone Job = Unit {0}
-IsAlone Task = Unit {0}
-IsAlone (Tick line moment) = Unit {0}
-IsAlone (Feed line fragment) = Unit {0}
-IsAlone (Claim worker track index session kid) = worker ≡ 0
-IsAlone (Deliver place verdict) = Unit {0}
-IsAlone (GiveUp place) = ⊥
-IsAlone (Publish track index place) = Unit {0}
-IsAlone (PassClear track index) = Unit {0}
-IsAlone (WaitForKey track) = Unit {0}
-IsAlone (Settle line) = Unit {0}
+abbrev pub IsOfOneThread : Entry → Type 0
+IsOfOneThread (Call lane line call) = lane ≤ 7
+IsOfOneThread Job = Unit {0}
+IsOfOneThread Task = Unit {0}
+IsOfOneThread (Tick line moment) = Unit {0}
+IsOfOneThread (Feed line fragment) = Unit {0}
+IsOfOneThread (Claim worker track index session kid) = worker ≡ 0
+IsOfOneThread (Deliver place verdict) = Unit {0}
+IsOfOneThread (GiveUp place) = ⊥
+IsOfOneThread (Publish track index place) = Unit {0}
+IsOfOneThread (PassClear track index) = Unit {0}
+IsOfOneThread (WaitForKey track) = Unit {0}
+IsOfOneThread (Settle line) = Unit {0}
 
 -- what a play has fed: `next` fragments of the media, and none past the last
 pub record HasFed (media : Media) (next : ℕ) (r : Run) : Type 0 where
@@ -130,8 +119,10 @@ pub record HasFed (media : Media) (next : ℕ) (r : Run) : Type 0 where
   pub left : drop (length (feeds_in r.history)) media.fragments ≡ drop next media.fragments
   pub samples : fed_samples r.history ≡ sum_by fragment_samples (take next media.fragments)
   pub bytes : fed_bytes r.history ≡ sum_by fragment_bytes (take next media.fragments)
-  pub alone : AllByRecursion IsAlone r.history
+  pub alone : AllByRecursion IsOfOneThread r.history
   pub delivered : NoneWaits r.history
+  pub turns : AreInTurn r.tracks r.history
+  pub last : LastAsked r.history
 
 -- a play has gone through the first n lines, in order
 pub record HasGone (script : List Line) (media : Media) (n next : ℕ) (r : Run) : Type 0 where

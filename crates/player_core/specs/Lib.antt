@@ -1,2 +1,5 @@
+pub mod Alone
 pub mod Course
 pub mod Turns
+pub mod Inspect
+pub mod Demo

@@ -5,7 +5,8 @@ ghost use Rattle.cdm_state.specs.History.{MayFeedNext};
 ghost use Rattle.output_order.specs.Complete.{IsComplete};
 ghost use Rattle.output_order.specs.Staffed.{IsStaffed};
 ghost use Rattle.cdm_state.specs.Progress.{NoneWaits};
-ghost use Rattle.player_core.specs.Course.{IsBuiltScript, Goes, MayGo, entry_of, next_after, next_by, HasGone, HasFollowed};
+ghost use Rattle.player_core.specs.Alone.{IsAlone};
+ghost use Rattle.player_core.specs.Course.{Goes, MayGo, entry_of, next_after, next_by, HasGone, HasFollowed};
 ghost use Rattle.eme_types.specs.declared.entry.Entry.TheVariants.{Feed as FeedEntry};
 
 use crate::settle::settle_all;
@@ -92,7 +93,6 @@ fn play_lines(
     next: &mut usize,
 ) -> Result<(), AllocError>
     requires fed { IsFed media.now }
-    requires built { IsBuiltScript script.now }
     requires none { HasGone script.now media.now 0 next.old cdm.old }
     ensures { OnOk result (HasGone script.now media.now (length script.now) next.new cdm.new) }
 {
@@ -125,11 +125,12 @@ fn play_rest(
     Ok(())
 }
 
-/// Plays the script on the media: its lines in order, whatever their lanes, with steps taken at each settle alone.
+/// Plays the script on the media: its lines in order, whatever their lanes, with steps taken at each settle alone. The history is that of
+/// the alone order.
 pub fn play_alone(alloc: Global, script: &Script, media: Media) -> Result<Cdm, AllocError>
     requires fed { IsFed media }
-    requires built { IsBuiltScript script.now }
     ensures tracks { IfOk result (λ cdm. cdm.tracks ≡ media.tracks) }
+    ensures alone { IfOk result (λ cdm. IsAlone script.now media cdm.history) }
     ensures complete { IfOk result (λ cdm. IsComplete script.now media cdm.history) }
     ensures staffed { IfOk result (λ cdm. IsStaffed 0 cdm.history) }
     ensures delivered { IfOk result (λ cdm. NoneWaits cdm.history) }
@@ -138,5 +139,6 @@ pub fn play_alone(alloc: Global, script: &Script, media: Media) -> Result<Cdm, A
     let mut next = 0;
     play_lines(alloc, &mut cdm, script, &media, &mut next)?;
     play_rest(alloc, &mut cdm, script, &media, next)?;
+    let _legal = cdm.history();
     Ok(cdm)
 }

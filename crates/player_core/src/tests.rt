@@ -2,20 +2,19 @@ ghost use Rattle.std.specs.Prelude.{◌≡◌, ◌≤◌, IfOk, IsTrue, length};
 ghost use Rattle.std.specs.List.{list_all, sum_by};
 ghost use Rattle.eme_types.specs.Fed.{IsFed, sample_bytes};
 ghost use Rattle.eme_types.specs.WellFormed.{is_well_formed};
-ghost use Rattle.cdm_state.specs.Calls.{IsBuilt};
-ghost use Rattle.player_core.specs.Course.{IsBuiltScript};
 
-use crate::play_alone;
+use crate::{demo_input, inspect_text, play_alone};
 use cdm_state::Cdm;
 use eme_types::{
-    AppCall, Bytes, EncSample, Fragment, Fragments, Inits, Items, Iv, KeyId, Media, Parts, Protect,
-    Samples, Scheme, Subs, TrackIds, TrackPart,
+    AppCall, Bytes, EncSample, Fragment, Fragments, InitData, InitKind, Inits, Items, Iv, KeyId,
+    Media, Parts, Protect, Samples, Scheme, Subs, TrackIds, TrackPart,
 };
 use output_order::{log_text, summary_text, track_bytes};
-use script_lang::{Action, Line, Script};
+use script_lang::{Action, Line, Script, read_script};
 use std::alloc::Global;
 use std::process::Abort;
 use std::test::Fail;
+use track_media::parse_media;
 
 const INIT: &[u8] = b"{\"kids\":[\"AAECAwQFBgcICQoLDA0ODw\"]}";
 
@@ -38,18 +37,14 @@ const OPENED: [u8; 16] = [
     0x6b, 0xc1, 0xbe, 0xe2, 0x2e, 0x40, 0x9f, 0x96, 0xe9, 0x3d, 0x7e, 0x11, 0x73, 0x93, 0x17, 0x2a,
 ];
 
-fn create(alloc: Global) -> Result<AppCall, Fail>
-    ensures { IfOk result (λ call. IsBuilt call) }
-{
+fn create(alloc: Global) -> Result<AppCall, Fail> {
     Ok(AppCall::Create {
         label: Bytes::from_slice(alloc, b"a")?,
         kind: Bytes::from_slice(alloc, b"temporary")?,
     })
 }
 
-fn request(alloc: Global, init: &[u8]) -> Result<AppCall, Fail>
-    ensures { IfOk result (λ call. IsBuilt call) }
-{
+fn request(alloc: Global, init: &[u8]) -> Result<AppCall, Fail> {
     Ok(AppCall::Request {
         label: Bytes::from_slice(alloc, b"a")?,
         kind: Bytes::from_slice(alloc, b"keyids")?,
@@ -57,9 +52,7 @@ fn request(alloc: Global, init: &[u8]) -> Result<AppCall, Fail>
     })
 }
 
-fn update(alloc: Global) -> Result<AppCall, Fail>
-    ensures { IfOk result (λ call. IsBuilt call) }
-{
+fn update(alloc: Global) -> Result<AppCall, Fail> {
     Ok(AppCall::Update {
         label: Bytes::from_slice(alloc, b"a")?,
         response: Bytes::from_slice(alloc, LICENCE)?,
@@ -76,15 +69,11 @@ fn line(number: u32, action: Action) -> Line
     }
 }
 
-fn no_lines(alloc: Global) -> Script
-    ensures { IsBuiltScript result }
-{
+fn no_lines(alloc: Global) -> Script {
     Script::new(Items::new(alloc))
 }
 
-fn one_session(alloc: Global) -> Result<Script, Fail>
-    ensures { IfOk result (λ script. IsBuiltScript script) }
-{
+fn one_session(alloc: Global) -> Result<Script, Fail> {
     let mut lines = Items::new(alloc);
     lines.push(line(2, Action::Ask(create(alloc)?)))?;
     lines.push(line(3, Action::Ask(request(alloc, INIT)?)))?;
@@ -94,9 +83,7 @@ fn one_session(alloc: Global) -> Result<Script, Fail>
     Ok(Script::new(lines))
 }
 
-fn empty_request(alloc: Global) -> Result<Script, Fail>
-    ensures { IfOk result (λ script. IsBuiltScript script) }
-{
+fn empty_request(alloc: Global) -> Result<Script, Fail> {
     let mut lines = Items::new(alloc);
     lines.push(line(2, Action::Ask(create(alloc)?)))?;
     lines.push(line(3, Action::Ask(request(alloc, b"")?)))?;
@@ -304,5 +291,98 @@ fn a_fragment_without_a_line_is_fed_behind_the_last(rt: HostRuntime) -> Result<(
     )?;
     let passed = track_bytes(alloc, &cdm, 1)?;
     assert_eq!(rt; passed.as_slice(), b"abc".as_slice());
+    Ok(())
+}
+
+// A fragment with initialization data of both types, one of them empty, and no part.
+fn two_inits(alloc: Global) -> Result<Media, Fail> {
+    let mut inits = Inits::new(alloc);
+    inits.push(InitData {
+        kind: InitKind::Cenc,
+        bytes: Bytes::from_slice(alloc, &[0x0a, 0xff])?,
+    })?;
+    inits.push(InitData {
+        kind: InitKind::Keyids,
+        bytes: Bytes::new(alloc),
+    })?;
+    let mut fragments = Fragments::new(alloc);
+    fragments.push(Fragment {
+        inits,
+        parts: Parts::new(alloc),
+    })?;
+    Ok(Media {
+        tracks: TrackIds::new(alloc),
+        fragments,
+    })
+}
+
+fn inspects(rt: &impl Abort, alloc: Global, media: &Media, text: &str) -> Result<(), Fail> {
+    let told = inspect_text(alloc, media)?;
+    assert_eq!(rt; told.as_slice(), text.as_bytes());
+    Ok(())
+}
+
+#[test]
+fn media_is_inspected(rt: HostRuntime) -> Result<(), Fail> {
+    let alloc = rt.alloc();
+    inspects(&rt, alloc, &no_media(alloc), "fragments 0 tracks 0\n")?;
+    inspects(
+        &rt,
+        alloc,
+        &one_sample(alloc, protected(alloc, &KID)?)?,
+        "fragment 1 track 1 samples 1 protected 1 bytes 16\nfragments 1 tracks 1\n",
+    )?;
+    inspects(
+        &rt,
+        alloc,
+        &two_tracks(alloc, clear(alloc, b"abc")?, protected(alloc, &KID)?)?,
+        "fragment 1 track 1 samples 1 protected 0 bytes 3\nfragment 1 track 2 samples 1 protected 1 bytes 16\nfragments 1 tracks 2\n",
+    )?;
+    inspects(
+        &rt,
+        alloc,
+        &two_inits(alloc)?,
+        "fragment 1 init cenc 0aff\nfragment 1 init keyids -\nfragments 1 tracks 0\n",
+    )?;
+    Ok(())
+}
+
+// FNV-1a of 64 bits.
+fn fnv(bytes: &[u8]) -> u64 {
+    let mut hash: u64 = 0xcbf2_9ce4_8422_2325;
+    for byte in bytes {
+        hash = (hash ^ u64::from(*byte)).wrapping_mul(0x100_0000_01b3);
+    }
+    hash
+}
+
+fn samples_of(media: &Media, track: u32) -> usize {
+    let mut count: usize = 0;
+    for fragment in media.fragments.as_slice() {
+        for part in fragment.parts.as_slice() {
+            if part.track == track {
+                count = count.saturating_add(part.samples.len());
+            }
+        }
+    }
+    count
+}
+
+#[test]
+fn the_demonstration_is_read(rt: HostRuntime) -> Result<(), Fail> {
+    let alloc = rt.alloc();
+    let demo = demo_input(alloc, 1)?;
+    // Lengths and hashes are those of a transcription of the published xoshiro256++ and SplitMix64.
+    assert_eq!(rt; demo.script.len(), 747);
+    assert_eq!(rt; fnv(demo.script.as_slice()), 0x1b3f_fb71_e73d_e941);
+    assert_eq!(rt; demo.media.len(), 18_460_579);
+    assert_eq!(rt; fnv(demo.media.as_slice()), 0xea27_9d7a_068e_727e);
+    let script = read_script(alloc, demo.script.as_slice())?;
+    assert_eq!(rt; script.len(), 10);
+    let media = parse_media(alloc, demo.media.as_slice())?;
+    assert_eq!(rt; media.tracks.as_slice(), [1, 2].as_slice());
+    assert_eq!(rt; media.fragments.len(), 256);
+    assert_eq!(rt; samples_of(&media, 1), 8192);
+    assert_eq!(rt; samples_of(&media, 2), 8192);
     Ok(())
 }

@@ -1,5 +1,5 @@
 -- The first line of a text.
-use Rattle.std.proofs.Common.{◌≡◌, ◌<◌, ◌≤◌, ◌+◌, ℕ, zero, suc, List, [], ◌∷◌, ◌++◌, length, take, drop, get_or, Bool, true, false, Option, Some, None, refl, ap, sym, ◌∙◌, arith, add-one, length-append}
+use Rattle.std.proofs.Common.{◌≡◌, ◌<◌, ◌≤◌, ◌+◌, ℕ, suc, List, [], ◌∷◌, ◌++◌, length, take, drop, get_or, Bool, true, false, Some, None, refl, ap, sym, ◌∙◌, arith, add-one}
 use Rattle.std.specs.Prelude.{position, cond}
 use Rattle.std.specs.List.{onto_first, position_or_len}
 use Rattle.std.proofs.lemmas.Bool.{eqb-true}
@@ -8,6 +8,8 @@ use Rattle.std.proofs.Math.Seq.{drop-cons}
 use Rattle.std.proofs.lemmas.List.Quantifiers.{position-Some}
 use Rattle.std.proofs.lemmas.List.Sums.{fails_before_first}
 use borrow.Author.Tests.{ltb-false}
+use Rattle.std.specs.Str.{IsUtf8, is_utf8}
+use Rattle.std.proofs.lemmas.Str.{IsUtf8-from_is_utf8}
 use Rattle.script_lang.specs.Lines.{lines_of, is_line_feed}
 
 -- a line up to its line feed
@@ -43,3 +45,11 @@ first_up_to text i e =
     let whole : text ≡ take i text ++ 10 ∷ drop (suc i) text = sym (take-append-drop i text) ∙ ap (λ xs. take i text ++ xs) cut in
     rw add-one (ap lines_of whole ∙ up_to_feed (take i text) (drop (suc i) text) (λ k lt.
     let le : k < i = omega (arith, lt, length-take i text) in ap is_line_feed (get_or-take i text k 0 le) ∙ at.2 k le))
+
+-- bytes that no characters spell fail the test
+pub utf8_fails : (bytes : List ℕ) → ¬ (IsUtf8 bytes) → is_utf8 bytes ≡ false
+utf8_fails bytes none = by_test (is_utf8 bytes) refl
+  where
+    by_test : (b : Bool) → is_utf8 bytes ≡ b → is_utf8 bytes ≡ false
+    by_test true e = absurd (none (IsUtf8-from_is_utf8 bytes e))
+    by_test false e = e

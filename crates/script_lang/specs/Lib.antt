@@ -1,4 +1,10 @@
 pub mod Lines
 pub mod Parts
 pub mod Script
-pub mod Form
+pub mod Words
+pub mod Verbs
+pub mod Content
+pub mod Rules
+pub mod Grammar
+pub mod Faults
+pub mod Read

@@ -1,13 +1,21 @@
-//! The script: the lines that a play takes, and the reader of its first form.
+//! The script: the lines that a play takes, and their reader.
 #![tactic(auto)]
 
-mod data;
+mod actions;
+mod content;
+mod fault;
+mod labels;
 mod lines;
+mod parts;
 mod read;
 mod script;
 #[cfg(test)]
 mod tests;
+mod told;
+mod verb;
+mod words;
 
+pub use fault::{ScriptFault, ScriptKind};
 pub use lines::{cut, next_line};
-pub use read::{ScriptFault, ScriptKind, read_script};
+pub use read::read_script;
 pub use script::{Action, Line, Script};

@@ -1,7 +1,7 @@
 use Rattle.std.proofs.Common.{◌≡◌, take}
 use Rattle.std.specs.List.{sum_by}
-use Rattle.cdm_state.specs.Feeds.{part_len}
+use Rattle.eme_types.specs.Fed.{part_samples}
 use Rattle.cdm_state.proofs.feed.count_of.Given as goal
 
 abbrev pub invariant-loop-part : goal.invariant-loop-part
-invariant-loop-part l = l.count ≡ sum_by part_len (take l.part-index l.parts)
+invariant-loop-part l = l.count ≡ sum_by part_samples (take l.part-index l.parts)

@@ -1,5 +1,4 @@
 use Rattle.std.proofs.lemmas.Result.{err_from_is_err_and}
-use Rattle.std.proofs.Common.{[], refl}
 use Rattle.player_cli.proofs.Writes.{writing_on, front_on}
 use Rattle.player_cli.proofs.write.append_text.Goals as goal
 

@@ -12,7 +12,7 @@ play_line-requires-clause-may c =
     let line : Line = c.line-item.result in
     let here : slice_get items c.loop-line.line-index ≡ Some line = slice_get_read items (length items) c.loop-line.line-index line refl c.loop-line-test.true c.line-item.is in
     let at : slice_get c.args.script.now c.loop-line.line-index ≡ Some line = ap (λ ls. slice_get ls c.loop-line.line-index) (sym c.as_slice-line-items.ensures.value) ∙ here in
-    subst (λ (fs : List Fragment). MayGo c.loop-line.cdm line.action (slice_get fs c.loop-line.next)) (sym c.as_slice-fragments.ensures) (may_go c.args.script.now c.args.media.now c.loop-line.line-index c.loop-line.next c.loop-line.cdm line c.moment_is_of_the_last_tick.ensures c.as_slice-line-items.ensures.script c.requires.built c.requires.fed at c.loop-line.invariant)
+    subst (λ (fs : List Fragment). MayGo c.loop-line.cdm line.action (slice_get fs c.loop-line.next)) (sym c.as_slice-fragments.ensures) (may_go c.args.script.now c.args.media.now c.loop-line.line-index c.loop-line.next c.loop-line.cdm line c.moment_is_of_the_last_tick.ensures c.as_slice-line-items.ensures.script c.requires.fed at c.loop-line.invariant)
 
 pub loop-line-preserved : goal.loop-line-preserved
 loop-line-preserved c =

@@ -1,5 +1,4 @@
-use Rattle.std.proofs.Common.{refl}
-use Rattle.cdm_state.specs.Tracks.{TrackState, empty_track}
+use Rattle.key_statuses.specs.Tracks.{TrackState, empty_track}
 use Rattle.cdm_state.specs.Contract.{FirstBusy}
 use Rattle.cdm_state.specs.History.{world, AtRest}
 use Rattle.player_core.proofs.Steps.{settles_now}
@@ -14,4 +13,4 @@ unreachable-requires-in-Err-Track c =
     busy.busy d (rest.tracks busy.at d busy.within)
 
 pub returns-in-Ok : goal.returns-in-Ok
-returns-in-Ok c = settles_now c.args.cdm.now c.args.cdm.now c.settle.new.self c.args.line refl c.in-Ok.ensures.ok c.in-Ok.ensures.rest
+returns-in-Ok c = settles_now c.args.cdm.now c.settle.new.self c.args.line c.in-Ok.ensures.ok c.in-Ok.ensures.rest c.requires.delivered c.requires.idle

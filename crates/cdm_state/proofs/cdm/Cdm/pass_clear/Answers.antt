@@ -1,6 +1,9 @@
 use Rattle.std.proofs.Common.{refl, get_or, length, arith}
 use Rattle.eme_types.specs.declared.entry.Entry.TheVariants.{PassClear}
-use Rattle.cdm_state.proofs.TrackLists.{no_track, short_at, clear_left}
+use Rattle.key_claims.specs.Changes.{changed_at, more_out}
+use Rattle.key_claims.proofs.Readiness.{head_fed}
+use Rattle.key_claims.proofs.Deliveries.{on_err}
+use Rattle.cdm_state.proofs.TrackLists.{no_track, left_here, gives_out}
 use Rattle.cdm_state.proofs.Places.{room_out, kept_more}
 use Rattle.cdm_state.proofs.Onward.{pass_at}
 use Rattle.cdm_state.proofs.Exact.{no_pass}
@@ -8,32 +11,43 @@ use Rattle.cdm_state.proofs.First.{first_pass}
 use Rattle.cdm_state.proofs.OutOn.{out_pass}
 use Rattle.cdm_state.proofs.cdm.Cdm.pass_clear.Goals as goal
 
-pub next_of-next-requires-clause-short : goal.next_of-next-requires-clause-short
-next_of-next-requires-clause-short c =
-    let f = rw c.deref.ensures.value at c.in-Some.ensures in
-    λ d. short_at c.self.inside.tracks.items _ c.in-Some.at d c.self.invariant.0.tracks c.self.invariant.1.fed c.self.invariant.1.limit f.within
-
-pub put_output-requires-clause-left : goal.put_output-requires-clause-left
-put_output-requires-clause-left c =
-    let f = rw c.deref.ensures.value at c.in-Some.ensures in
-    λ d. clear_left (get_or c.self.inside.tracks.items c.in-Some.at d) (f.on d)
-
-pub invariant_of-self : goal.invariant_of-self
-invariant_of-self c =
-    let s = c.self.inside in (
-      room_out s.tracks.items c.put_output.new.tracks.items (length s.places.items) _ _ _ _ _ c.put_output.ensures.room c.append.ensures.history_room c.append.ensures.effects_room c.self.invariant.0,
-      kept_more s.history.0 c.append.new.history.0 (PassClear c.next_of-next.result.track c.next_of-next.result.index) s.tracks.items c.put_output.new.tracks.items s.places.items c.append.ensures.history (λ w t i n k x. cc) refl (omega (arith, c.put_output.ensures.room.fed)) c.self.invariant.1,
-      pass_at s.ids s.history.0 c.append.new.history.0 s.effects.0 c.append.new.effects.0 c.new-did.result c.next_of-next.result.track c.next_of-next.result.index c.in-Some.at s.sessions.machine s.tracks.items c.put_output.new.tracks.items s.claims.items c.self.invariant.2 c.self.invariant.3 (rw c.deref.ensures.value at c.in-Some.ensures) c.next_of-next.ensures.track c.next_of-next.ensures.index c.put_output.ensures.moved c.append.ensures.history c.new-did.ensures c.append.ensures.effects,
-      c.self.invariant.3,
-      out_pass s.ids s.history.0 c.append.new.history.0 s.effects.0 s.sessions.machine s.tracks.items c.put_output.new.tracks.items s.claims.items c.next_of-next.result.track c.next_of-next.result.index c.in-Some.at c.self.invariant.2 c.self.invariant.3 c.self.invariant.4 (rw c.deref.ensures.value at c.in-Some.ensures) c.next_of-next.ensures.track c.next_of-next.ensures.index c.append.ensures.history c.put_output.ensures.out,
-    )
-
-pub returns-in-None-clause-not_ready : goal.returns-in-None-clause-not_ready
-returns-in-None-clause-not_ready c =
+pub returns-in_err-next-clause-not_ready : goal.returns-in_err-next-clause-not_ready
+returns-in_err-next-clause-not_ready c =
     let s = c.self.inside in
-    rw (← c.self.view_is) (no_pass s.ids s.history.0 s.effects.0 s.sessions.machine s.tracks.items s.claims.items c.self.invariant.2 (rw c.deref.ensures.value at c.in-None.ensures))
+    on_err c.from_residual.result (rw (← c.self.view_is) (no_pass s.ids s.history.0 s.effects.0 s.sessions.machine s.tracks.tracks s.tracks.claims c.self.invariant.2 c.in_err-next.ensures.not_ready))
+
+pub append-requires-clause-history : goal.append-requires-clause-history
+append-requires-clause-history c =
+    let s = c.self.inside in
+    let p = c.in_ok-next.ensures.ok in
+    let some = left_here s.tracks.tracks p.at no_track p.first.within (head_fed (get_or s.tracks.tracks p.at no_track) p.sample (p.head_ no_track)) in
+    omega (arith, some, c.self.invariant.0.history)
+
+pub append-requires-clause-effects : goal.append-requires-clause-effects
+append-requires-clause-effects c =
+    let s = c.self.inside in
+    let p = c.in_ok-next.ensures.ok in
+    let some = left_here s.tracks.tracks p.at no_track p.first.within (head_fed (get_or s.tracks.tracks p.at no_track) p.sample (p.head_ no_track)) in
+    omega (arith, some, c.self.invariant.0.effects)
+
+pub invariant_of-self-2 : goal.invariant_of-self-2
+invariant_of-self-2 c =
+    let s = c.self.inside in
+    let ts = s.tracks.tracks in
+    let claims = s.tracks.claims in
+    let next = c.in_ok-next.next in
+    let p = c.in_ok-next.ensures.ok in
+    let g = gives_out ts p.at p.sample.bytes no_track p.first.within (head_fed (get_or ts p.at no_track) p.sample (p.head_ no_track)) in
+    rw (p.tracks, p.claims) (
+      room_out ts (changed_at ts p.at (more_out p.sample.bytes)) (length s.places.items) _ _ _ _ _ g c.append.ensures.history_room c.append.ensures.effects_room c.self.invariant.0,
+      kept_more s.history.0 c.append.new.history.0 (PassClear next.track next.index) ts (changed_at ts p.at (more_out p.sample.bytes)) s.places.items c.append.ensures.history (λ w t i n k x. cc) refl (omega (arith, g.fed)) c.self.invariant.1,
+      pass_at s.ids s.history.0 c.append.new.history.0 s.effects.0 c.append.new.effects.0 c.new-did.result next.track next.index p.at p.sample.bytes s.sessions.machine ts claims no_track c.self.invariant.2 c.self.invariant.3 p.first (p.next.track_ no_track) (p.next.index_ no_track) c.append.ensures.history c.new-did.ensures c.append.ensures.effects,
+      c.self.invariant.3,
+      out_pass s.ids s.history.0 c.append.new.history.0 s.effects.0 s.sessions.machine ts claims next.track next.index p.at p.sample c.self.invariant.2 c.self.invariant.3 c.self.invariant.4 p.first (p.next.track_ no_track) (p.next.index_ no_track) (p.head_ no_track) c.append.ensures.history,
+    )
 
 pub returns-clause-first : goal.returns-clause-first
 returns-clause-first c =
     let s = c.self.inside in
-    rw (← c.self.view_is) (first_pass s.ids s.history.0 s.effects.0 s.sessions.machine s.tracks.items s.claims.items c.in-Some.at c.next_of-next.result.track no_track c.self.invariant.2 c.self.invariant.3 (rw c.deref.ensures.value at c.in-Some.ensures) (c.next_of-next.ensures.track no_track))
+    let p = c.in_ok-next.ensures.ok in
+    rw (← c.self.view_is) (first_pass s.ids s.history.0 s.effects.0 s.sessions.machine s.tracks.tracks s.tracks.claims p.at c.in_ok-next.next.track no_track c.self.invariant.2 c.self.invariant.3 p.first (p.next.track_ no_track))

@@ -1,39 +1,70 @@
-use Rattle.std.proofs.Common.{refl, length, arith}
+use Rattle.std.proofs.Common.{◌≡◌, ◌∙◌, ℕ, refl, get_or, length, ap, sym, subst, arith}
+use Rattle.std.specs.Prelude.{filter}
 use Rattle.eme_types.specs.declared.entry.Entry.TheVariants.{Publish}
-use Rattle.cdm_state.proofs.TrackLists.{no_track}
+use Rattle.key_claims.specs.Changes.{changed_at, more_out}
+use Rattle.key_claims.specs.Choice.{IsReady}
+use Rattle.key_claims.specs.Claims.{is_other, clear_at}
+use Rattle.key_claims.proofs.Readiness.{ready_fed}
+use Rattle.key_claims.proofs.Deliveries.{on_err}
+use Rattle.cdm_state.proofs.TrackLists.{no_track, left_here, gives_out}
 use Rattle.cdm_state.proofs.Places.{room_out, kept_more}
 use Rattle.cdm_state.proofs.Onward.{publish_at}
-use Rattle.cdm_state.proofs.May.{may_publish}
-use Rattle.cdm_state.proofs.FedOn.{no_publish}
+use Rattle.cdm_state.proofs.FedOn.{no_publish, same_ready}
 use Rattle.cdm_state.proofs.First.{first_publish}
-use Rattle.cdm_state.proofs.OutOn.{out_publish, fewer_removed}
+use Rattle.cdm_state.proofs.OutOn.{out_publish}
 use Rattle.cdm_state.proofs.cdm.Cdm.publish.Goals as goal
-
-pub remove-slot-requires : goal.remove-slot-requires
-remove-slot-requires c =
-    let on = c.in-Some.ensures.on no_track in
-    omega (arith, on.slot.within, c.deref.ensures.len)
-
-pub invariant_of-self : goal.invariant_of-self
-invariant_of-self c =
-    let s = c.self.inside in (
-      room_out s.tracks.items c.put_output.new.tracks.items (length s.places.items) _ _ _ _ _ c.put_output.ensures.room c.append.ensures.history_room c.append.ensures.effects_room c.self.invariant.0,
-      kept_more s.history.0 c.append.new.history.0 (Publish c.remove-slot.result.track c.remove-slot.result.index c.remove-slot.result.place) s.tracks.items c.put_output.new.tracks.items s.places.items c.append.ensures.history (λ w t i n k x. cc) refl (omega (arith, c.put_output.ensures.room.fed)) c.self.invariant.1,
-      publish_at s.ids s.history.0 c.append.new.history.0 s.effects.0 c.append.new.effects.0 c.new-did.result s.sessions.machine s.tracks.items c.put_output.new.tracks.items s.claims.items c.remove-slot.new.self.items c.in-Some.ready c.remove-slot.result c.self.invariant.2 c.self.invariant.3 (rw (c.deref.ensures.value, c.deref-2.ensures.value) at c.in-Some.ensures) c.remove-slot.ensures.value c.put_output.ensures.moved c.append.ensures.history c.new-did.ensures c.append.ensures.effects c.remove-slot.ensures.items,
-      c.self.invariant.3,
-      out_publish s.ids s.history.0 c.append.new.history.0 s.effects.0 s.sessions.machine s.tracks.items c.put_output.new.tracks.items s.claims.items c.remove-slot.new.self.items c.in-Some.ready c.remove-slot.result c.self.invariant.2 c.self.invariant.3 c.self.invariant.4 (rw (c.deref.ensures.value, c.deref-2.ensures.value) at c.in-Some.ensures) c.remove-slot.ensures.value c.append.ensures.history c.put_output.ensures.out (fewer_removed s.claims.items c.remove-slot.new.self.items c.in-Some.ready.slot c.remove-slot.ensures.items),
-    )
-
-pub returns-clause-ok : goal.returns-clause-ok
-returns-clause-ok c = (c.remove-slot.result.place, rw (← c.self.view_is, c.append.ensures.history) refl)
 
 pub returns-in-None-clause-not_ready : goal.returns-in-None-clause-not_ready
 returns-in-None-clause-not_ready c =
     let s = c.self.inside in
-    rw (← c.self.view_is) (no_publish s.ids s.history.0 s.effects.0 s.sessions.machine s.tracks.items s.claims.items c.self.invariant.2 (rw (c.deref.ensures.value, c.deref-2.ensures.value) at c.in-None.ensures))
+    rw (← c.self.view_is) (no_publish s.ids s.history.0 s.effects.0 s.sessions.machine s.tracks.tracks s.tracks.claims c.self.invariant.2 c.in-None.ensures)
+
+pub returns-in_err-published-clause-not_ready : goal.returns-in_err-published-clause-not_ready
+returns-in_err-published-clause-not_ready c =
+    let s = c.self.inside in
+    on_err c.from_residual.result (rw (← c.self.view_is) (no_publish s.ids s.history.0 s.effects.0 s.sessions.machine s.tracks.tracks s.tracks.claims c.self.invariant.2 c.in_err-published.ensures.not_ready))
+
+pub append-requires-clause-history : goal.append-requires-clause-history
+append-requires-clause-history c =
+    let s = c.self.inside in
+    let p = c.in_ok-published.ensures.ok in
+    let some = left_here s.tracks.tracks p.at no_track p.first.within (ready_fed s.tracks.claims (get_or s.tracks.tracks p.at no_track) p.place (p.first.on no_track)) in
+    omega (arith, some, c.self.invariant.0.history)
+
+pub append-requires-clause-effects : goal.append-requires-clause-effects
+append-requires-clause-effects c =
+    let s = c.self.inside in
+    let p = c.in_ok-published.ensures.ok in
+    let some = left_here s.tracks.tracks p.at no_track p.first.within (ready_fed s.tracks.claims (get_or s.tracks.tracks p.at no_track) p.place (p.first.on no_track)) in
+    omega (arith, some, c.self.invariant.0.effects)
+
+pub invariant_of-self-2 : goal.invariant_of-self-2
+invariant_of-self-2 c =
+    let s = c.self.inside in
+    let ts = s.tracks.tracks in
+    let claims = s.tracks.claims in
+    let out = c.in_ok-published.published in
+    let p = c.in_ok-published.ensures.ok in
+    let r = c.in-Some.ensures in
+    let place = c.in-Some.ready.place in
+    let same : p.place ≡ place = same_ready claims ts p.at r.at p.place place p.first r.first in
+    let ready : IsReady claims ts p.at place = subst (λ (n : ℕ). IsReady claims ts p.at n) same p.first in
+    let gone = p.claims ∙ ap (λ (n : ℕ). filter (is_other n) claims) same in
+    let given = ap (λ (n : ℕ). clear_at n claims) (sym same) ∙ p.delivered in
+    let g = gives_out ts p.at p.clear no_track p.first.within (ready_fed claims (get_or ts p.at no_track) p.place (p.first.on no_track)) in
+    rw p.tracks (
+      room_out ts (changed_at ts p.at (more_out p.clear)) (length s.places.items) _ _ _ _ _ g c.append.ensures.history_room c.append.ensures.effects_room c.self.invariant.0,
+      kept_more s.history.0 c.append.new.history.0 (Publish out.track out.index place) ts (changed_at ts p.at (more_out p.clear)) s.places.items c.append.ensures.history (λ w t i n k x. cc) refl (omega (arith, g.fed)) c.self.invariant.1,
+      publish_at s.ids s.history.0 c.append.new.history.0 s.effects.0 c.append.new.effects.0 c.new-did.result out.track out.index p.at place p.clear s.sessions.machine ts claims c.publish.new.self.claims no_track c.self.invariant.2 c.self.invariant.3 ready (p.next.track_ no_track) (p.next.index_ no_track) c.append.ensures.history c.new-did.ensures c.append.ensures.effects gone,
+      c.self.invariant.3,
+      out_publish s.ids s.history.0 c.append.new.history.0 s.effects.0 s.sessions.machine ts claims c.publish.new.self.claims out.track out.index p.at place p.clear c.self.invariant.2 c.self.invariant.3 c.self.invariant.4 ready (p.next.track_ no_track) (p.next.index_ no_track) given c.append.ensures.history gone,
+    )
+
+pub returns-clause-ok : goal.returns-clause-ok
+returns-clause-ok c = (c.in-Some.ready.place, rw (← c.self.view_is, c.append.ensures.history) refl)
 
 pub returns-clause-first : goal.returns-clause-first
 returns-clause-first c =
     let s = c.self.inside in
-    let ready = rw (c.deref.ensures.value, c.deref-2.ensures.value) at c.in-Some.ensures in
-    rw (← c.self.view_is) (first_publish s.ids s.history.0 s.effects.0 s.sessions.machine s.tracks.items s.claims.items c.in-Some.ready c.remove-slot.result.track no_track c.self.invariant.2 c.self.invariant.3 ready (may_publish s.ids s.history.0 s.effects.0 s.sessions.machine s.tracks.items s.claims.items c.in-Some.ready c.remove-slot.result no_track c.self.invariant.2 c.self.invariant.3 ready c.remove-slot.ensures.value).1)
+    let p = c.in_ok-published.ensures.ok in
+    rw (← c.self.view_is) (first_publish s.ids s.history.0 s.effects.0 s.sessions.machine s.tracks.tracks s.tracks.claims p.at p.place c.in_ok-published.published.track no_track c.self.invariant.2 c.self.invariant.3 p.first (p.next.track_ no_track))

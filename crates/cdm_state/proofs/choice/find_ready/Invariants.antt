@@ -1,8 +1,0 @@
-use Rattle.std.proofs.Common.{ℕ, ◌<◌}
-use Rattle.std.specs.Prelude.{slice_index_or}
-use Rattle.cdm_state.specs.declared.track.Track.{Track}
-use Rattle.cdm_state.specs.Choice.{NoReadyOn}
-use Rattle.cdm_state.proofs.choice.find_ready.Given as goal
-
-abbrev pub invariant-loop-at : goal.invariant-loop-at
-invariant-loop-at l = (k : ℕ) (d : Track) → k < l.at → NoReadyOn l.claims (slice_index_or l.tracks k d)

@@ -1,6 +1,0 @@
-use Rattle.std.proofs.Common.{sym}
-use Rattle.cdm_state.proofs.Differ.{tables_differ}
-use Rattle.cdm_state.proofs.report.same_table.Goals as goal
-
-pub returns-then-a-b : goal.returns-then-a-b
-returns-then-a-b c = sym (tables_differ c.args.a.now c.args.b.now c.if-a-b.true)

@@ -1,7 +1,0 @@
-use Rattle.std.proofs.Common.{◌≡◌, drop}
-use Rattle.cdm_state.specs.Statuses.{statuses_from, statuses}
-use Rattle.cdm_state.proofs.report.statuses_of.Given as goal
-
--- what is left leads to all
-abbrev pub invariant-loop-known : goal.invariant-loop-known
-invariant-loop-known l = statuses_from l.list.items (drop l.known-index l.table) l.held ≡ statuses l.table l.held

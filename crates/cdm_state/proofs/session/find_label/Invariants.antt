@@ -1,6 +1,0 @@
-use Rattle.std.proofs.Common.{take}
-use Rattle.cdm_state.specs.Loops.{Unlabelled}
-use Rattle.cdm_state.proofs.session.find_label.Given as goal
-
-abbrev pub invariant-loop-i : goal.invariant-loop-i
-invariant-loop-i l = Unlabelled (take l.i l.sessions) l.label

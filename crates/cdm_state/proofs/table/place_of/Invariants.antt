@@ -1,6 +1,0 @@
-use Rattle.std.proofs.Common.{take}
-use Rattle.cdm_state.specs.Loops.{Unknown}
-use Rattle.cdm_state.proofs.table.place_of.Given as goal
-
-abbrev pub invariant-loop-i : goal.invariant-loop-i
-invariant-loop-i l = Unknown (take l.i l.table) l.kid

@@ -1,6 +1,0 @@
--- A session as the algorithms see it.
-use Rattle.cdm_state.specs.declared.session.Session.{Session}
-use Rattle.cdm_state.specs.Machine.{SessionState}
-
-abbrev pub session_of : Session → SessionState
-session_of s = record { label = s.label; id = s.id; uninitialized = s.uninitialized; callable = s.callable; closing = s.closing; closed = s.closed; keys = s.keys.keys; expiration = s.expiration; reported = s.reported }

@@ -1,0 +1,38 @@
+-- Tracks that wait for a key.
+use Rattle.std.specs.Prelude.{ℕ, ◌≡◌, Bool, true, false, ◌||◌, IsTrue, List, [], ◌∷◌, Some}
+use Rattle.eme_types.specs.declared.kid.KeyBytes.{KeyBytes}
+use Rattle.eme_types.specs.declared.sample.EncSample.{EncSample}
+use Rattle.eme_types.specs.declared.sample.Protect.{Protect}
+use Rattle.eme_types.specs.declared.entry.Entry.{Entry}
+use Rattle.task_queue.specs.declared.work.Task.{Task}
+use Rattle.task_queue.specs.declared.work.Task.TheVariants.{Reject, RequestDone, UpdateDone, CloseDone, RemoveDone, Report, Fire, Resume}
+use Rattle.key_sessions.specs.Keys.{held_key}
+use Rattle.key_statuses.specs.Tracks.{TrackState, head, find_track}
+use Rattle.cdm_state.specs.History.{world, IsLegal, LiveOn}
+
+-- the task looks at the waiting tracks again, or queues what does
+abbrev pub will_resume : Task → Bool
+will_resume (Reject p error) = false
+will_resume (RequestDone n kids p) = false
+will_resume (UpdateDone n changed p) = changed
+will_resume (CloseDone n p) = false
+will_resume (RemoveDone n p) = false
+will_resume (Report n) = false
+will_resume (Fire event) = false
+will_resume Resume = true
+
+abbrev pub resume_queued : List Task → Bool
+resume_queued [] = false
+resume_queued (task ∷ tasks) = will_resume task || resume_queued tasks
+
+-- the head of the waiting track is fed and protected and has no live claim; once a session holds its key usable, a task is queued that looks at it again
+pub record WaitsForKey (ids : List ℕ) (h : List Entry) (id : ℕ) (t : TrackState) : Type 0 where
+  pub sample : EncSample
+  pub fed : head t ≡ Some sample
+  pub protect : Protect
+  pub protected : sample.protect ≡ Some protect
+  pub free : (place : ℕ) → LiveOn ids h place id t.published → ⊥
+  pub woken : (session : ℕ) (key : KeyBytes) → held_key (world ids h).machine session protect.kid ≡ Some key → IsTrue (resume_queued (world ids h).machine.tasks)
+
+abbrev pub WaitsOnlyForKeys : Type 0
+WaitsOnlyForKeys = (ids : List ℕ) (h : List Entry) (id : ℕ) (t : TrackState) → IsLegal ids h → find_track (world ids h).tracks id ≡ Some t → t.waiting ≡ true → WaitsForKey ids h id t
