@@ -3,3 +3,5 @@ pub mod MoovLeaving
 pub mod TableLeaving
 pub mod Taking
 pub mod Few
+pub mod Distinct
+pub mod Tracks

@@ -4,3 +4,4 @@ pub mod Gathering
 pub mod Table
 pub mod Moov
 pub mod Counts
+pub mod Tracks
