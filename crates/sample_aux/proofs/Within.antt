@@ -19,6 +19,7 @@ use Rattle.frag_boxes.specs.declared.records.Traf.{Traf}
 use Rattle.frag_boxes.specs.declared.records.MovieTrack.{MovieTrack}
 use Rattle.frag_boxes.specs.declared.records.Movie.{Movie}
 use Rattle.frag_boxes.specs.declared.records.Moof.{Moof}
+use Rattle.frag_boxes.specs.Tracks.{track_id, track_ids}
 use Rattle.pattern_map.specs.SampleFaults.{first_fault_of}
 use Rattle.pattern_map.specs.declared.check.SampleFault.TheVariants.{Sum, IvSize, Pattern}
 use Rattle.sample_aux.specs.declared.fault.AuxFault.{AuxFault}
@@ -35,7 +36,7 @@ use Rattle.sample_aux.specs.Spans.{part_of}
 use Rattle.sample_aux.specs.InOrder.{in_order, learnt, each_passes}
 use Rattle.sample_aux.specs.Laying.{base_of, is_outside, size_of, spot_at, after, counted, run_at, run_laid, begun, runs_laid}
 use Rattle.sample_aux.specs.Auxiliary.{rule_of, auxiliary_of}
-use Rattle.sample_aux.specs.Resolve.{track_id, track_ids, entry_with, samples_of, traf_resolved, trafs_resolved, joined, all_joined, begin, fragment_of, resolved, track_with, place_of, item_of, protect_of, sample_at, samples_at, check_place, as_fault, sample_passes}
+use Rattle.sample_aux.specs.Resolve.{entry_with, samples_of, traf_resolved, trafs_resolved, joined, all_joined, begin, fragment_of, resolved, track_with, place_of, item_of, protect_of, sample_at, samples_at, check_place, as_fault, sample_passes}
 use Rattle.sample_aux.proofs.Joining.{both_true, or_right, is_formed, of_track, distinct_joined, joined_of, joined_formed, joined_samples, joined_bytes, distinct_filter, filter_keeps, filter_has, sum_filter}
 
 -- what >>= gave was given by both

@@ -6,4 +6,5 @@ pub mod Laying
 pub mod Groups
 pub mod Counting
 pub mod Auxiliary
+pub mod Inits
 pub mod Resolve

@@ -1,17 +1,13 @@
 -- A movie fragment resolved: its samples with their protection (ISO/IEC 14496-12 section 8.8, ISO/IEC 23001-7).
-use Rattle.std.specs.Prelude.{ℕ, ◌-◌, ℤ, pos, Bool, true, false, filter, ◌==◌, List, [], ◌∷◌, ◌++◌, length, map, slice_get, unwrap_or, Option, Some, None, Result, Ok, Err, if◌then◌else◌}
-use Rattle.std.specs.List.{flat_map}
+use Rattle.std.specs.Prelude.{ℕ, ◌-◌, ℤ, pos, Bool, true, false, filter, ◌==◌, List, [], ◌∷◌, ◌++◌, length, slice_get, unwrap_or, Option, Some, None, Result, Ok, Err, if◌then◌else◌}
 use Rattle.eme_types.specs.declared.sample.EncSample.{EncSample}
 use Rattle.eme_types.specs.declared.sample.Protect.{Protect}
 use Rattle.eme_types.specs.declared.sample.Iv.{Iv}
-use Rattle.eme_types.specs.declared.media.InitData.{InitData}
-use Rattle.eme_types.specs.declared.media.InitKind.TheVariants.{Cenc}
 use Rattle.eme_types.specs.declared.media.TrackPart.{TrackPart}
 use Rattle.eme_types.specs.declared.media.Fragment.{Fragment}
 use Rattle.eme_types.specs.Fed.{has_samples}
 use Rattle.iso_boxes.specs.Children.{◌>>=◌, required}
 use Rattle.prot_boxes.specs.declared.senc.SencItem.{SencItem}
-use Rattle.frag_boxes.specs.declared.records.Span.{Span}
 use Rattle.frag_boxes.specs.declared.records.SampleEntry.{SampleEntry}
 use Rattle.frag_boxes.specs.declared.records.MovieTrack.{MovieTrack}
 use Rattle.frag_boxes.specs.declared.records.Movie.{Movie}
@@ -27,7 +23,8 @@ use Rattle.sample_aux.specs.declared.laying.Laying.{Laying}
 use Rattle.sample_aux.specs.declared.laying.Spot.{Spot}
 use Rattle.sample_aux.specs.declared.fragment.Room.{Room}
 use Rattle.sample_aux.specs.Faults.{fault_at, sample_kind}
-use Rattle.sample_aux.specs.Spans.{part_of, box_bytes}
+use Rattle.sample_aux.specs.Spans.{part_of}
+use Rattle.sample_aux.specs.Inits.{inits_of}
 use Rattle.sample_aux.specs.InOrder.{each_number, each_passes}
 use Rattle.sample_aux.specs.Laying.{base_of, runs_laid}
 use Rattle.sample_aux.specs.Groups.{protection_of}
@@ -38,13 +35,6 @@ use Rattle.sample_aux.specs.Auxiliary.{auxiliary_of, rule_of, nothing}
 abbrev pub track_with : ℕ → List MovieTrack → Option MovieTrack
 track_with id [] = None
 track_with id (t ∷ ts) = if t.id == id then Some t else track_with id ts
-
-abbrev pub track_id : MovieTrack → ℕ
-track_id t = t.id
-
--- the tracks of the movie
-abbrev pub track_ids : Movie → List ℕ
-track_ids movie = map track_id movie.tracks
 
 -- sample entries are counted from 1
 abbrev pub entry_with : ℕ → List SampleEntry → Option SampleEntry
@@ -149,11 +139,6 @@ joined parts (p ∷ ps) = joined (put_part parts p) ps
 abbrev pub all_joined : List TrackPart → Result (List TrackPart) AuxFault → Result (List TrackPart) AuxFault
 all_joined parts (Ok more) = Ok (joined parts more)
 all_joined parts (Err e) = Err e
-
--- the pssh boxes, whole and in file order, make one initialization data
-abbrev pub inits_of : List ℕ → List Span → List InitData
-inits_of file [] = []
-inits_of file (s ∷ ss) = record { kind = Cenc; bytes = flat_map (λ x. box_bytes file x) (s ∷ ss) } ∷ []
 
 -- before the first track fragment the end of the data is the start of the moof
 abbrev pub begin : Moof → Room → Laying

@@ -1,19 +1,18 @@
 // A movie fragment resolved.
 ghost use Rattle.std.specs.Prelude.{◌≡◌, ◌≤◌, ◌++◌, [], ◌∷◌, filter, IfOk, OnOk, IsTrue};
-ghost use Rattle.std.specs.List.{flat_map};
 ghost use Rattle.std.specs.Option.{option_map};
 ghost use Rattle.eme_types.specs.Fed.{has_samples, are_known, is_joined, are_well_formed, fragment_samples, fragment_bytes};
+ghost use Rattle.frag_boxes.specs.Tracks.{track_ids};
 ghost use Rattle.sample_aux.specs.Faults.{Gives};
-ghost use Rattle.sample_aux.specs.Spans.{box_bytes};
-ghost use Rattle.sample_aux.specs.Resolve.{track_ids, track_with, entry_with, traf_resolved, trafs_resolved, met, put_part, put_left, all_joined, inits_of, fragment_of, resolved};
+ghost use Rattle.sample_aux.specs.Resolve.{track_with, entry_with, traf_resolved, trafs_resolved, met, put_part, put_left, all_joined, fragment_of, resolved};
 
 use crate::fault::{AuxFault, AuxKind};
 use crate::groups::protection_of;
+use crate::inits::init_data_of;
 use crate::laying::{Laying, base_of, runs_laid};
 use crate::samples::samples_of;
-use crate::spans::part_of;
-use eme_types::{Bytes, Fragment, InitData, InitKind, Inits, Items, Parts, Samples, TrackPart};
-use frag_boxes::{Moof, Movie, MovieTrack, SampleEntry, Span, Traf};
+use eme_types::{Fragment, Items, Parts, Samples, TrackPart};
+use frag_boxes::{Moof, Movie, MovieTrack, SampleEntry, Traf};
 use std::alloc::{AllocError, Global};
 
 /// What the limits leave: samples, and bytes of samples.
@@ -189,39 +188,6 @@ fn with_samples(alloc: Global, parts: Vec<TrackPart>) -> Result<Parts, AllocErro
     Ok(all)
 }
 
-/// Adds the whole box of a span.
-fn put_box_bytes(bytes: &mut Bytes, file: &[u8], span: &Span) -> Result<(), AllocError>
-    ensures { OnOk result (bytes.new ≡ bytes.old ++ box_bytes file.now span.now) }
-{
-    let header = span.body_place.saturating_sub(span.place);
-    bytes.extend_from_slice(part_of(file, span.place, header))?;
-    bytes.extend_from_slice(part_of(file, span.body_place, span.len))
-}
-
-fn pssh_bytes(alloc: Global, file: &[u8], spans: &[Span]) -> Result<Bytes, AllocError>
-    ensures { IfOk result (λ x. x ≡ flat_map (λ s. box_bytes file.now s) spans.now) }
-{
-    let mut bytes = Bytes::new(alloc);
-    for span in spans {
-        put_box_bytes(&mut bytes, file, span)?;
-    }
-    Ok(bytes)
-}
-
-fn inits_of(alloc: Global, file: &[u8], spans: &[Span]) -> Result<Inits, AllocError>
-    ensures { IfOk result (λ x. x ≡ inits_of file.now spans.now) }
-{
-    let mut inits = Items::new(alloc);
-    if !spans.is_empty() {
-        let bytes = pssh_bytes(alloc, file, spans)?;
-        inits.push(InitData {
-            kind: InitKind::Cenc,
-            bytes,
-        })?;
-    }
-    Ok(inits)
-}
-
 /// The samples of a movie fragment with their protection, within the room that the limits leave
 /// (ISO/IEC 14496-12 section 8.8, ISO/IEC 23001-7). `movie` and `moof` are those that stand in `file`. The initialization
 /// data is that of the `moof` alone.
@@ -260,6 +226,6 @@ fn resolve_all(
     };
     let parts = resolve_trafs(alloc, file, movie, moof.place, begin, moof.trafs.as_slice())?;
     let parts = with_samples(alloc, parts)?;
-    let inits = inits_of(alloc, file, moof.psshs.as_slice())?;
+    let inits = init_data_of(alloc, file, moof.psshs.as_slice())?;
     Ok(Fragment { inits, parts })
 }

@@ -1,6 +1,6 @@
-use crate::{AuxFault, AuxKind, Room, check_movie, resolve};
-use eme_types::{Bytes, Fragment, Items, Iv, Scheme, Sub, Subs};
-use frag_boxes::{Moof, Movie, read_moof, read_moov};
+use crate::{AuxFault, AuxKind, Room, check_movie, init_data_of, resolve};
+use eme_types::{Bytes, Fragment, InitKind, Items, Iv, Scheme, Sub, Subs};
+use frag_boxes::{Moof, Movie, Span, read_moof, read_moov};
 use iso_boxes::{Boxes, put_box, put_bytes, put_u32};
 use prot_boxes::{
     Saio, Saiz, Sbgp, SbgpItem, Seig, Senc, SencItem, Sgpd, Sinf, Tenc, put_saio, put_saiz,
@@ -253,5 +253,32 @@ fn refusals_have_their_place(rt: HostRuntime) -> Result<(), Fail> {
         let answer = resolved(alloc, file.as_slice(), space);
         assert!(rt; is_fault(answer, place, kind), "{kind:?} at {place}");
     }
+    Ok(())
+}
+
+#[test]
+fn pssh_boxes_make_one_initialization_data(rt: HostRuntime) -> Result<(), Fail> {
+    let alloc = rt.alloc();
+    let file = b"\0\0\0\x09psshA\0\0\0\x08free\0\0\0\x0apsshBB".as_slice();
+    let psshs = [
+        Span {
+            place: 0,
+            body_place: 8,
+            len: 1,
+        },
+        Span {
+            place: 17,
+            body_place: 25,
+            len: 2,
+        },
+    ];
+    let inits = init_data_of(alloc, file, &psshs)?;
+    let [init] = inits.as_slice() else {
+        assert!(rt; false, "one initialization data");
+        return Ok(());
+    };
+    let both = b"\0\0\0\x09psshA\0\0\0\x0apsshBB".as_slice();
+    assert!(rt; init.kind == InitKind::Cenc && init.bytes.as_slice() == both);
+    assert_eq!(rt; init_data_of(alloc, file, &[])?.len(), 0);
     Ok(())
 }

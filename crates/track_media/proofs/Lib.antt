@@ -4,5 +4,4 @@ pub mod GatheringLemmas
 pub mod SectionLemmas
 pub mod Standing
 pub mod Sound
-pub mod Tracks
 pub mod TopBoxes

@@ -4,12 +4,12 @@ use Rattle.std.specs.Prelude.{nat_le, if◌then◌else◌}
 use Rattle.std.specs.List.{list_all}
 use Rattle.std.specs.Char.{is_ascii_digit, digit_value}
 use Rattle.std.specs.Str.Parse.{digits_value}
-use Rattle.std.proofs.lemmas.Bool.{cases_Bool, le-leb}
+use Rattle.std.proofs.lemmas.Bool.{cases_Bool}
 use Rattle.std.proofs.lemmas.Bool.Decides.{nat_tests}
 use Rattle.std.proofs.lemmas.List.Folds.{list_all_at}
 use Rattle.std.proofs.lemmas.Int.Digits.{digits_value_more}
 use Rattle.std.proofs.lemmas.Str.Parse.{digits_value-take-le}
-use Rattle.std.proofs.lemmas.List.{append-nil, take_all}
+use Rattle.std.proofs.lemmas.List.{append-nil}
 use Rattle.eme_types.specs.declared.sample.Sub.{Sub}
 use Rattle.track_media.specs.Text.{all_subs, with_sub, sub_in}
 
@@ -56,17 +56,9 @@ value_more ds i all lt =
 chosen_none : (v most : ℕ) → most < v → None ≡ (if nat_le v most then Some v else None)
 chosen_none v most lt = grind (arith, nat_tests)
 
-chosen_some : (v most : ℕ) → v ≤ most → Some v ≡ (if nat_le v most then Some v else None)
-chosen_some v most le = rw (le-leb v most le) refl
-
 -- a value above the limit stays above it
 pub too_large : (ds : List ℕ) (i most next : ℕ) → list_all is_ascii_digit ds ≡ true → i < length ds → next ≡ digits_value 10 (take i ds) * 10 + (get_or ds i 0 - 48) → most < next → None ≡ (if nat_le (digits_value 10 ds) most then Some (digits_value 10 ds) else None)
 too_large ds i most next all lt is above =
     let more = value_more ds i all lt in
     let within : digits_value 10 (take (i + 1) ds) ≤ digits_value 10 ds = digits_value-take-le 10 ds (i + 1) (lit≤ tt) in
     chosen_none (digits_value 10 ds) most (omega (arith, more, within, is, above))
-
-pub whole_value : (ds : List ℕ) (v most : ℕ) → v ≡ digits_value 10 (take (length ds) ds) → v ≤ most → Some v ≡ (if nat_le (digits_value 10 ds) most then Some (digits_value 10 ds) else None)
-whole_value ds v most is le =
-    let all : v ≡ digits_value 10 ds = is ∙ ap (digits_value 10) (take_all (length ds) ds (omega arith)) in
-    ap (λ n. Some n) all ∙ chosen_some (digits_value 10 ds) most (omega (arith, all, le))

@@ -10,11 +10,12 @@ use Rattle.eme_types.specs.declared.media.Fragment.{Fragment}
 use Rattle.eme_types.specs.declared.media.TrackPart.{TrackPart}
 use Rattle.eme_types.specs.WellFormed.{is_well_formed}
 use Rattle.eme_types.specs.Fed.{IsFed, is_among, are_distinct, has_samples, part_track, part_samples, part_bytes, sample_bytes, fragment_samples, fragment_bytes, are_well_formed, are_known, is_joined, max_tracks, max_samples, max_bytes}
+use Rattle.frag_boxes.proofs.Distinct.{distinct_end}
 use Rattle.track_media.specs.declared.line.ListLine.{ListLine}
 use Rattle.track_media.specs.declared.line.ListLine.TheVariants as a
 use Rattle.track_media.specs.ListLine.{Fits}
 use Rattle.track_media.specs.Gathering.{Gathering, added, finished, pushed, with_sample, empty_part, open_fragment, fragments_at, nothing}
-use Rattle.track_media.proofs.Standing.{two_tests, not_true, turned}
+use Rattle.track_media.proofs.Standing.{two_tests, not_true}
 
 abbrev pub part_formed : TrackPart → Bool
 part_formed p = list_all is_well_formed p.samples
@@ -122,25 +123,6 @@ all_among (t ∷ ts) = rw (same_id t, among_more t ts ts (all_among ts)) refl
 parts_among : (ids : List ℕ) (ps : List TrackPart) → list_all (is_among ids) (map part_track ps) ≡ list_all (λ p. is_among ids p.track) ps
 parts_among ids [] = refl
 parts_among ids (p ∷ ps) = ap (λ b. is_among ids p.track && b) (parts_among ids ps)
-
-or_none : (b : Bool) → (b || false) ≡ b
-or_none true = refl
-or_none false = refl
-
-or_group : (b c d : Bool) → (b || (c || d)) ≡ ((b || c) || d)
-or_group true c d = refl
-or_group false c d = refl
-
-among_end : (ts : List ℕ) (id t : ℕ) → is_among (ts ++ id ∷ []) t ≡ (is_among ts t || (id == t))
-among_end [] id t = or_none (id == t)
-among_end (u ∷ ts) id t = rw (among_end ts id t) (or_group (u == t) (is_among ts t) (id == t))
-
-pub distinct_end : (ts : List ℕ) (id : ℕ) → are_distinct ts ≡ true → is_among ts id ≡ false → are_distinct (ts ++ id ∷ []) ≡ true
-distinct_end [] id e n = refl
-distinct_end (t ∷ ts) id e n =
-    let both = two_tests (not (is_among ts t)) (are_distinct ts) e in
-    let no' = neither (t == id) (is_among ts id) n in
-    rw (among_end ts id t, not_true (is_among ts t) both.0, turned t id false no'.0, distinct_end ts id both.1 no'.1) refl
 
 -- ---- all fragments
 

@@ -26,10 +26,6 @@ abbrev pub open_at : Bool → List ListLine → List (List ListLine)
 open_at false section = []
 open_at true section = section ∷ []
 
-abbrev pub parts_at : Bool → List TrackPart → List TrackPart
-parts_at false parts = []
-parts_at true parts = parts
-
 -- the lines before, as they were gathered
 pub record Stands (before : List ListLine) (g : Gathering) : Type 0 where
   pub whole : List (List ListLine)
@@ -77,7 +73,7 @@ part_gained : (section : List ListLine) (id t : ℕ) (s : EncSample) → (id == 
 part_gained section id t s e =
     same_part t _ _ (sym (track_samples-append t section (a.Sample id s ∷ []) ∙ ap (λ xs. track_samples t section ++ xs) (same_track id t s e)))
 
-pub turned : (x y : ℕ) (b : Bool) → (x == y) ≡ b → (y == x) ≡ b
+turned : (x y : ℕ) (b : Bool) → (x == y) ≡ b → (y == x) ≡ b
 turned x y true e = eq-eqb y x (sym (eqb-true x y e))
 turned x y false e = ne_eqb y x (λ h. eqb-false x y e (sym h))
 

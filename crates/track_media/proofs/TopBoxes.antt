@@ -2,7 +2,7 @@
 use Rattle.std.proofs.Common.{◌≡◌, ◌⊎◌, ℕ, ◌+◌, ◌-◌, ◌≤◌, true, List, [], ◌∷◌, ◌++◌, length, Bool, Option, Some, None, Result, Ok, Err, refl, sym, ap, subst, ◌∙◌, append_assoc, arith, lit≤}
 use Rattle.std.specs.Prelude.{IfOk}
 use Rattle.std.specs.List.{list_all, sum_by}
-use Rattle.std.proofs.lemmas.List.{append-nil}
+use Rattle.std.proofs.lemmas.List.{append-nil, length-map}
 use Rattle.std.proofs.lemmas.List.Sums.{sum_by-cons}
 use Rattle.iso_boxes.specs.declared.walk.BoxFault.{BoxFault}
 use Rattle.iso_boxes.specs.Walk.{Found, Walked, walk, before}
@@ -12,9 +12,7 @@ use Rattle.eme_types.specs.declared.media.Fragment.{Fragment}
 use Rattle.eme_types.specs.declared.media.Media.{Media}
 use Rattle.eme_types.specs.Fed.{IsFed, are_distinct, are_known, is_joined, are_well_formed, fragment_samples, fragment_bytes, max_tracks, max_samples, max_bytes}
 use Rattle.frag_boxes.specs.declared.records.Movie.{Movie}
-use Rattle.frag_boxes.specs.declared.records.Moof.{Moof}
-use Rattle.sample_aux.specs.declared.fragment.Room.{Room}
-use Rattle.sample_aux.specs.Resolve.{inits_of, trafs_resolved, resolved}
+use Rattle.frag_boxes.specs.Tracks.{track_id, HasTracks}
 use Rattle.track_media.specs.declared.kind.MediaFault.{MediaFault}
 use Rattle.track_media.specs.declared.top.Seen.{Seen}
 use Rattle.track_media.specs.declared.top.TopPart.{TopPart}
@@ -23,7 +21,7 @@ use Rattle.track_media.specs.declared.mp4.FileParts.{FileParts}
 use Rattle.track_media.specs.Refusals.{header_fault}
 use Rattle.track_media.specs.Mp4.{top_part_at, movie_in, fragments_in, seen_from, tracks_of, movie_inits, with_first, media_from, media_of_parts, followed_by, mp4_media}
 use Rattle.track_media.specs.File.{GivesMedia}
-use Rattle.track_media.specs.FileParts.{HasTracks, IsOf, Fits, nothing_read, saw, more_fragments, top_added}
+use Rattle.track_media.specs.FileParts.{IsOf, Fits, nothing_read, saw, more_fragments, top_added}
 use Rattle.track_media.proofs.Sound.{one_more, sum_end}
 
 -- ---- the parts that were read
@@ -122,18 +120,6 @@ reads_whole file s w e r =
     let whole : mp4_media file ≡ Ok (media_of_parts file r.before) = ends (top_reader file) r.before w (mp4_media file) e r.all ∙ simp append-nil in
     whole ∙ ap (λ (m : Option Movie). Ok (media_from file m (fragments_in r.before))) movie ∙ ap (λ (fs : List Fragment). Ok (media_from file s.seen.movie fs)) (sym r.fragments)
 
--- ---- initialization data
-
--- a movie fragment without track fragments has no samples
-pub no_samples : (file : List ℕ) (movie : Movie) (moof : Moof) (room : Room) → moof.trafs ≡ [] → resolved file movie moof room ≡ Ok (record { inits = inits_of file moof.psshs; parts = [] })
-unfolding resolved trafs_resolved
-no_samples file movie moof room none = rw none refl
-
--- where there is no data, nothing changes
-pub nothing_first : (fs : List Fragment) → with_first [] fs ≡ fs
-nothing_first [] = refl
-nothing_first (f ∷ fs) = refl
-
 -- ---- what was read may be fed
 
 pub record Sound (s : FileParts) : Type 0 where
@@ -153,7 +139,7 @@ movie_sound : (s : FileParts) (m : Movie) → s.seen.movie ≡ None → HasTrack
 movie_sound s m none tracks st =
     let empty : s.fragments ≡ [] = st.early none in
     record {
-      few = tracks.few;
+      few = omega (arith, tracks.few, length-map m.tracks track_id);
       distinct = tracks.distinct;
       early = λ e. absurd cc;
       known = subst (λ (fs : List Fragment). list_all (are_known (tracks_of (Some m))) fs ≡ true) (sym empty) refl;

@@ -1,10 +1,10 @@
 -- What was read of an MP4 file, one box after the other. Contracts of private functions speak of it.
-use Rattle.std.specs.Prelude.{◌≡◌, ◌-◌, ◌≤◌, List, [], ◌∷◌, ◌++◌, length, Some, None, IsTrue}
+use Rattle.std.specs.Prelude.{◌≡◌, ◌-◌, ◌≤◌, List, [], ◌∷◌, ◌++◌, Some, None, IsTrue}
 use Rattle.eme_types.specs.declared.media.Fragment.{Fragment}
-use Rattle.eme_types.specs.Fed.{are_distinct, are_known, is_joined, are_well_formed, fragment_samples, fragment_bytes, max_tracks}
+use Rattle.eme_types.specs.Fed.{are_known, is_joined, are_well_formed, fragment_samples, fragment_bytes}
 use Rattle.frag_boxes.specs.declared.records.Movie.{Movie}
+use Rattle.frag_boxes.specs.Tracks.{track_ids, HasTracks}
 use Rattle.sample_aux.specs.declared.fragment.Room.{Room}
-use Rattle.sample_aux.specs.Resolve.{track_ids}
 use Rattle.track_media.specs.declared.top.Seen.{Seen}
 use Rattle.track_media.specs.declared.top.TopPart.{TopPart}
 use Rattle.track_media.specs.declared.top.TopPart.TheVariants as part
@@ -31,11 +31,6 @@ abbrev pub top_added : FileParts → TopPart → FileParts
 top_added s p = record { seen = saw s.seen p; fragments = more_fragments s.fragments p }
 
 -- ---- what is kept by every part that is not refused
-
--- a movie has at most 8 tracks, no two of them with one id
-pub record HasTracks (m : Movie) : Type 0 where
-  pub few : length (track_ids m) ≤ max_tracks
-  pub distinct : IsTrue (are_distinct (track_ids m))
 
 -- a fragment of a movie, inside a room
 pub record IsWithin (room : Room) (m : Movie) (f : Fragment) : Type 0 where

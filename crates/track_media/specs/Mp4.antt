@@ -11,9 +11,11 @@ use Rattle.iso_boxes.specs.Children.{◌>>=◌, all_knowing}
 use Rattle.frag_boxes.specs.declared.records.Movie.{Movie}
 use Rattle.frag_boxes.specs.Moov.{moov_at}
 use Rattle.frag_boxes.specs.Moof.{moof_at}
+use Rattle.frag_boxes.specs.Tracks.{track_ids}
 use Rattle.sample_aux.specs.declared.fragment.Room.{Room}
 use Rattle.sample_aux.specs.Checked.{movie_passes}
-use Rattle.sample_aux.specs.Resolve.{track_ids, inits_of, resolved}
+use Rattle.sample_aux.specs.Inits.{inits_of}
+use Rattle.sample_aux.specs.Resolve.{resolved}
 use Rattle.track_media.specs.declared.kind.MediaFault.{MediaFault}
 use Rattle.track_media.specs.declared.kind.MediaFault.TheVariants.{Refused}
 use Rattle.track_media.specs.declared.kind.MediaKind.TheVariants.{NoMoov, SecondMoov}

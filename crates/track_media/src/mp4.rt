@@ -1,7 +1,7 @@
 // Fragmented MP4.
 ghost use Rattle.std.specs.Prelude.{◌≡◌, ◌++◌, map, Ok, IfOk, OnOk};
 ghost use Rattle.eme_types.specs.Fed.{IsFed};
-ghost use Rattle.sample_aux.specs.Resolve.{track_id, inits_of};
+ghost use Rattle.frag_boxes.specs.Tracks.{track_id};
 ghost use Rattle.track_media.specs.File.{GivesMedia};
 ghost use Rattle.track_media.specs.FileParts.{nothing_read, top_added};
 ghost use Rattle.track_media.specs.Mp4.{with_first, media_from, mp4_media};
@@ -10,9 +10,9 @@ use crate::kind::MediaFault;
 use crate::room::less_room;
 use crate::top::{Seen, TopPart, read_top_part};
 use eme_types::{Fragments, Inits, Items, Media, TrackIds};
-use frag_boxes::{Moof, Movie, MovieTrack};
+use frag_boxes::MovieTrack;
 use iso_boxes::Boxes;
-use sample_aux::{Room, resolve};
+use sample_aux::{Room, init_data_of};
 use std::alloc::{AllocError, Global};
 use std::mem;
 
@@ -28,23 +28,6 @@ fn track_ids(alloc: Global, tracks: &[MovieTrack]) -> Result<TrackIds, AllocErro
         ids.push(track.id)?;
     }
     Ok(ids)
-}
-
-/// The initialization data of a movie: that of a movie fragment with the same `pssh` boxes and no track fragment.
-fn movie_inits(alloc: Global, file: &[u8], movie: &Movie) -> Result<Inits, MediaFault>
-    ensures { GivesMedia result (Ok (inits_of file.now movie.now.psshs)) }
-{
-    let moof = Moof {
-        place: movie.place,
-        trafs: Items::new(alloc),
-        psshs: Items::from_slice(alloc, movie.psshs.as_slice())?,
-    };
-    let room = Room {
-        samples: 0,
-        bytes: 0,
-    };
-    let fragment = resolve(alloc, file, movie, &moof, room)?;
-    Ok(fragment.inits)
 }
 
 /// The data of both, in order.
@@ -120,7 +103,7 @@ impl FileParts {
             }),
             Some(movie) => {
                 let tracks = track_ids(alloc, movie.tracks.as_slice())?;
-                let inits = movie_inits(alloc, file, &movie)?;
+                let inits = init_data_of(alloc, file, movie.psshs.as_slice())?;
                 let fragments = with_first(alloc, inits, fragments)?;
                 Ok(Media { tracks, fragments })
             }

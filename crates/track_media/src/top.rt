@@ -1,8 +1,9 @@
 // A box at the top level of an MP4 file.
 ghost use Rattle.std.specs.Prelude.{◌≡◌, ◌+◌, ◌<◌, ◌^◌, length, IfOk};
 ghost use Rattle.iso_boxes.specs.Walk.{found};
+ghost use Rattle.frag_boxes.specs.Tracks.{HasTracks};
 ghost use Rattle.track_media.specs.File.{GivesMedia};
-ghost use Rattle.track_media.specs.FileParts.{HasTracks, IsWithin, Fits};
+ghost use Rattle.track_media.specs.FileParts.{IsWithin, Fits};
 ghost use Rattle.track_media.specs.Mp4.{top_box, movie_at, fragment_at, top_part_at};
 
 use crate::kind::{MediaFault, MediaKind};

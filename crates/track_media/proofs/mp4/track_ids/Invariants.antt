@@ -1,5 +1,5 @@
 use Rattle.std.proofs.Common.{◌≡◌, map, take}
-use Rattle.sample_aux.specs.Resolve.{track_id}
+use Rattle.frag_boxes.specs.Tracks.{track_id}
 use Rattle.track_media.proofs.mp4.track_ids.Given as goal
 
 abbrev pub invariant-loop-track : goal.invariant-loop-track
