@@ -9,5 +9,6 @@ mod summary;
 mod track;
 
 pub use log::log_text;
+pub use names::{hex_text, init_name};
 pub use summary::summary_text;
 pub use track::track_bytes;

@@ -47,6 +47,7 @@ pub fn error_name(error: DomError) -> &'static str
     }
 }
 
+/// The name of an initialization data type (W3C Initialization Data Format Registry).
 pub fn init_name(kind: InitKind) -> &'static str
     ensures { result.now ≡ init_name_of kind }
 {

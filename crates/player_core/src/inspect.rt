@@ -2,30 +2,11 @@
 ghost use Rattle.std.specs.Prelude.{◌≡◌, ◌+◌, ◌++◌, IfOk, OnOk, string_bytes, count_by};
 ghost use Rattle.std.specs.List.{flat_map, sum_by};
 ghost use Rattle.eme_types.specs.Fed.{sample_bytes};
-ghost use Rattle.output_order.specs.Log.{hex_text as hex_text_of, init_name as init_name_of};
 ghost use Rattle.player_core.specs.Inspect.{is_protected as is_protected_of, init_line as init_line_of, part_line as part_line_of, fragment_lines, lines_from, inspect_text};
 
-use eme_types::{Bytes, EncSample, Fragment, InitData, InitKind, Media, TrackPart};
+use eme_types::{Bytes, EncSample, Fragment, InitData, Media, TrackPart};
+use output_order::{hex_text, init_name};
 use std::alloc::{AllocError, Global};
-
-/// Lower-case hexadecimal; a dash for no bytes.
-fn hex_text(alloc: Global, bytes: &[u8]) -> Result<String, AllocError>
-    ensures { IfOk result (λ s. string_bytes s ≡ hex_text_of bytes.now) }
-{
-    if bytes.is_empty() {
-        return String::from_str(alloc, "-");
-    }
-    hex::encode(alloc, bytes)
-}
-
-fn init_name(kind: InitKind) -> &'static str
-    ensures { result.now ≡ init_name_of kind }
-{
-    match kind {
-        InitKind::Cenc => "cenc",
-        InitKind::Keyids => "keyids",
-    }
-}
 
 fn is_protected(sample: &EncSample) -> bool
     ensures { result ≡ is_protected_of sample.now }
