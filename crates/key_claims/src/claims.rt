@@ -6,7 +6,7 @@ ghost use Rattle.key_claims.specs.Claims.{revoked, is_other, claimed_in, ready_c
 
 use crate::slots::{
     Generation, Held, Slot, bump, drop_ended, drop_place, end_slots, is_claimed, live_slot,
-    place_of, ready_place, slot_with,
+    place_of, put_key, ready_place, slot_with,
 };
 use eme_types::{Bytes, Copies, KeyId};
 use std::alloc::{AllocError, Global};
@@ -42,7 +42,7 @@ impl Claims {
         }
     }
 
-    /// A new claim under a session's key. Slots of ended claims are dropped, so no more are kept than claims fit in the windows of the tracks.
+    /// A new claim under a session's key. Slots of ended claims are dropped, and a new key is put in the stead of one that has no slot, so no more of both are kept than claims fit in the windows of the tracks.
     pub fn hold(&mut self, claim: Held, session: u32, kid: &KeyId) -> Result<(), AllocError>
         ensures ok { OnOk result (self.new ≡ self.old ++ claim_of claim session kid.now ∷ []) }
         ensures err { OnErr result (self.new ≡ self.old) }
@@ -55,12 +55,12 @@ impl Claims {
                 self.slots.push_reserved(slot_with(claim, at, generation));
             }
             None => {
-                let at = self.generations.len();
-                self.generations.push(Generation {
+                let key = Generation {
                     session,
                     kid: kid.copy()?,
                     number: 0,
-                })?;
+                };
+                let at = put_key(&mut self.generations, &self.slots, key)?;
                 self.slots.push_reserved(slot_with(claim, at, 0));
             }
         }

@@ -1,13 +1,14 @@
 // Slots of claims, and the generations of keys that tell which of them are ended.
-ghost use Rattle.std.specs.Prelude.{◌≡◌, ◌<◌, ◌==◌, ◌&&◌, map, length};
+ghost use Rattle.std.specs.Prelude.{◌≡◌, ◌<◌, ◌==◌, ◌&&◌, map, length, IfOk, OnErr};
 ghost use Rattle.std.specs.List.{filter};
 ghost use Rattle.key_claims.specs.Claims.{claimed_in, ready_claim};
 ghost use Rattle.key_claims.specs.Slots.{KeyPlace, is_of, generation_ended, ended, Bumps, is_current, is_at, is_current_on, is_given_on, is_other_slot, claims_in, SlotFound};
-ghost use Rattle.key_claims.specs.Holds.{slot_of};
+ghost use Rattle.key_claims.specs.Holds.{slot_of, is_held as slot_stands_at, FreePlace, IsPut};
 
 use eme_types::{Bytes, KeyBytes, KeyId};
+use std::alloc::AllocError;
 
-/// How often a session's key under an id was lost.
+/// How often a session's key under an id was lost since it was put into the list.
 #[derive(Drop)]
 pub struct Generation {
     pub session: u32,
@@ -71,6 +72,52 @@ pub fn place_of(generations: &[Generation], session: u32, kid: &[u8]) -> Option<
         }
     }
     None
+}
+
+/// Whether a slot has its key at the place.
+fn is_held(slots: &[Slot], place: usize) -> bool
+    ensures { result ≡ slot_stands_at slots.now place }
+{
+    for slot in slots {
+        if slot.entry == place {
+            return true;
+        }
+    }
+    false
+}
+
+/// The first place below the count at which no slot has its key.
+fn free_place(slots: &[Slot], count: usize) -> Option<usize>
+    ensures { FreePlace slots.now count result }
+{
+    for place in 0..count {
+        if !is_held(slots, place) {
+            return Some(place);
+        }
+    }
+    None
+}
+
+/// A new key is put at a place where no slot has its key, or at the end. So the list never has more keys than the most slots that there were at once.
+pub fn put_key(
+    generations: &mut Vec<Generation>,
+    slots: &[Slot],
+    key: Generation,
+) -> Result<usize, AllocError>
+    ensures ok { IfOk result (λ place. IsPut generations.old.items slots.now key place generations.new.items) }
+    ensures err { OnErr result (generations.new.items ≡ generations.old.items) }
+{
+    let count = generations.len();
+    match free_place(slots, count) {
+        None => {
+            generations.push(key)?;
+            Ok(count)
+        }
+        Some(place) => {
+            generations[place] = key;
+            Ok(place)
+        }
+    }
 }
 
 /// Whether the slot's key is still of its generation.

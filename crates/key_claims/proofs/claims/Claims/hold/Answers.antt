@@ -6,9 +6,9 @@ use Rattle.key_claims.specs.declared.slots.Slot.{Slot}
 use Rattle.key_claims.specs.TracksState.{ClaimState}
 use Rattle.key_claims.specs.SlotsKept.{SlotsKept}
 use Rattle.key_claims.specs.Slots.{KeyPlace, NoneOf, is_current, claims_in}
-use Rattle.key_claims.specs.Holds.{claim_of}
+use Rattle.key_claims.specs.Holds.{claim_of, IsPut}
 use Rattle.key_claims.proofs.Revokes.{key_at, get_there}
-use Rattle.key_claims.proofs.Holds.{claims_held, claims_same, get_last, kept_slot, kept_key}
+use Rattle.key_claims.proofs.Holds.{claims_held, claims_put, put_there, kept_slot, kept_put}
 use Rattle.key_claims.proofs.Deliveries.{claims_current, kept_filter, on_err}
 use Rattle.key_claims.proofs.claims.Claims.hold.Goals as goal
 
@@ -60,41 +60,41 @@ returns-in_err-copy-in-None-clause-err c =
     let left : c.reserve.new.self.items ≡ filter (is_current gs) ss = c.in_ok-reserve.ensures.items ∙ (rw c.deref.ensures.value at c.drop_ended.ensures) in
     on_err c.from_residual-in_err-copy-in-None.result (ap (λ (xs : List Slot). claims_in gs xs) left ∙ (claims_current gs ss ∙ c.self.view_is))
 
-pub invariant_of-self-in_err-push-in-None : goal.invariant_of-self-in_err-push-in-None
-invariant_of-self-in_err-push-in-None c =
+pub invariant_of-self-in_err-at-in-None : goal.invariant_of-self-in_err-at-in-None
+invariant_of-self-in_err-at-in-None c =
     let gs = c.self.inside.generations.items in
     let ss = c.self.inside.slots.items in
     let left : c.reserve.new.self.items ≡ filter (is_current gs) ss = c.in_ok-reserve.ensures.items ∙ (rw c.deref.ensures.value at c.drop_ended.ensures) in
-    let same : c.push.new.self.items ≡ gs = c.in_err-push-in-None.ensures.items in
+    let same : c.put_key.new.generations.items ≡ gs = c.in_err-at-in-None.ensures.err in
     rw (same, left) (kept_filter (is_current gs) gs ss c.self.invariant)
 
-pub returns-in_err-push-in-None-clause-err : goal.returns-in_err-push-in-None-clause-err
-returns-in_err-push-in-None-clause-err c =
+pub returns-in_err-at-in-None-clause-err : goal.returns-in_err-at-in-None-clause-err
+returns-in_err-at-in-None-clause-err c =
     let gs = c.self.inside.generations.items in
     let ss = c.self.inside.slots.items in
     let left : c.reserve.new.self.items ≡ filter (is_current gs) ss = c.in_ok-reserve.ensures.items ∙ (rw c.deref.ensures.value at c.drop_ended.ensures) in
-    let same : c.push.new.self.items ≡ gs = c.in_err-push-in-None.ensures.items in
-    on_err c.from_residual-in_err-push-in-None.result (ap (λ (hs : List Generation). claims_in hs c.reserve.new.self.items) same ∙ (ap (λ (xs : List Slot). claims_in gs xs) left ∙ (claims_current gs ss ∙ c.self.view_is)))
+    let same : c.put_key.new.generations.items ≡ gs = c.in_err-at-in-None.ensures.err in
+    on_err c.from_residual-in_err-at-in-None.result (ap (λ (hs : List Generation). claims_in hs c.reserve.new.self.items) same ∙ (ap (λ (xs : List Slot). claims_in gs xs) left ∙ (claims_current gs ss ∙ c.self.view_is)))
 
 pub invariant_of-self-in-None : goal.invariant_of-self-in-None
 invariant_of-self-in-None c =
     let gs = c.self.inside.generations.items in
     let ss = c.self.inside.slots.items in
+    let hs = c.put_key.new.generations.items in
     let left : c.reserve.new.self.items ≡ filter (is_current gs) ss = c.in_ok-reserve.ensures.items ∙ (rw c.deref.ensures.value at c.drop_ended.ensures) in
     let g : Generation = record { session = c.args.session; kid = c.args.kid.now; number = 0 } in
     let none : NoneOf gs c.args.session c.args.kid.now = rw (c.deref-2.ensures.value, c.bytes.ensures.value) at c.in-None.ensures in
-    let more : c.push.new.self.items ≡ gs ++ g ∷ [] = rw c.in_ok-copy-in-None.ensures at c.in_ok-push-in-None.ensures.items in
-    let len : c.len-at.result ≡ length gs = search rules in
-    rw (c.push_reserved-in-None.ensures.items, left, c.slot_with-in-None.ensures, more, len) (kept_slot (gs ++ g ∷ []) (filter (is_current gs) ss) c.args.claim (length gs) 0 g (get_last gs g) refl (kept_key gs (filter (is_current gs) ss) g none (kept_filter (is_current gs) gs ss c.self.invariant)))
+    let put : IsPut gs (filter (is_current gs) ss) g c.in_ok-at-in-None.at hs = rw (c.in_ok-copy-in-None.ensures, c.deref-in-None.ensures.value, left) at c.in_ok-at-in-None.ensures.ok in
+    rw (c.push_reserved-in-None.ensures.items, left, c.slot_with-in-None.ensures) (kept_slot hs (filter (is_current gs) ss) c.args.claim c.in_ok-at-in-None.at 0 g (put_there gs hs (filter (is_current gs) ss) g c.in_ok-at-in-None.at put) refl (kept_put gs hs (filter (is_current gs) ss) g c.in_ok-at-in-None.at none put (kept_filter (is_current gs) gs ss c.self.invariant)))
 
-pub returns-in_ok-push-in-None-clause-ok : goal.returns-in_ok-push-in-None-clause-ok
-returns-in_ok-push-in-None-clause-ok c =
+pub returns-in_ok-at-in-None-clause-ok : goal.returns-in_ok-at-in-None-clause-ok
+returns-in_ok-at-in-None-clause-ok c =
     let gs = c.self.inside.generations.items in
     let ss = c.self.inside.slots.items in
+    let hs = c.put_key.new.generations.items in
     let left : c.reserve.new.self.items ≡ filter (is_current gs) ss = c.in_ok-reserve.ensures.items ∙ (rw c.deref.ensures.value at c.drop_ended.ensures) in
     let g : Generation = record { session = c.args.session; kid = c.args.kid.now; number = 0 } in
-    let more : c.push.new.self.items ≡ gs ++ g ∷ [] = rw c.in_ok-copy-in-None.ensures at c.in_ok-push-in-None.ensures.items in
-    let len : c.len-at.result ≡ length gs = search rules in
-    rw (← c.self.view_is, c.push_reserved-in-None.ensures.items, left, c.slot_with-in-None.ensures, more, len)
-    (claims_held (gs ++ g ∷ []) (filter (is_current gs) ss) c.args.claim (length gs) 0 c.args.session c.args.kid.now g (get_last gs g) refl (record { session_is = refl; kid_is = refl })
-    ∙ ap (λ (cs : List ClaimState). cs ++ claim_of c.args.claim c.args.session c.args.kid.now ∷ []) (claims_same gs g (filter (is_current gs) ss) (kept_filter (is_current gs) gs ss c.self.invariant).behind ∙ claims_current gs ss))
+    let put : IsPut gs (filter (is_current gs) ss) g c.in_ok-at-in-None.at hs = rw (c.in_ok-copy-in-None.ensures, c.deref-in-None.ensures.value, left) at c.in_ok-at-in-None.ensures.ok in
+    rw (← c.self.view_is, c.push_reserved-in-None.ensures.items, left, c.slot_with-in-None.ensures)
+    (claims_held hs (filter (is_current gs) ss) c.args.claim c.in_ok-at-in-None.at 0 c.args.session c.args.kid.now g (put_there gs hs (filter (is_current gs) ss) g c.in_ok-at-in-None.at put) refl (record { session_is = refl; kid_is = refl })
+    ∙ ap (λ (cs : List ClaimState). cs ++ claim_of c.args.claim c.args.session c.args.kid.now ∷ []) (claims_put gs hs (filter (is_current gs) ss) g c.in_ok-at-in-None.at put (kept_filter (is_current gs) gs ss c.self.invariant).behind ∙ claims_current gs ss))
