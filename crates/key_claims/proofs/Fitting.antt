@@ -177,14 +177,14 @@ fits_filter ts f cs fits c there = fits c (In_filter f cs c there)
 
 -- after a delivery
 
-record GivenFrom (place : ℕ) (clear : List ℕ) (cs : List ClaimState) (c : ClaimState) : Type 0 where
-  old : ClaimState
-  there : In cs old
-  track : c.track ≡ old.track
-  index : c.index ≡ old.index
-  which : (c ≡ old) ⊎ ((old.place ≡ place) × (c ≡ record old { clear = Some clear }))
+pub record GivenFrom (place : ℕ) (clear : List ℕ) (cs : List ClaimState) (c : ClaimState) : Type 0 where
+  pub old : ClaimState
+  pub there : In cs old
+  pub track : c.track ≡ old.track
+  pub index : c.index ≡ old.index
+  pub which : (c ≡ old) ⊎ ((old.place ≡ place) × (c ≡ record old { clear = Some clear }))
 
-given_from : (place : ℕ) (clear : List ℕ) (cs : List ClaimState) (c : ClaimState) → In (give_clear place clear cs) c → GivenFrom place clear cs c
+pub given_from : (place : ℕ) (clear : List ℕ) (cs : List ClaimState) (c : ClaimState) → In (give_clear place clear cs) c → GivenFrom place clear cs c
 given_from place clear [] c there = absurd there
 given_from place clear (x ∷ cs) c there = elim (eqb_tells x.place place) [
   | inl p ↦ here p.1 (rw p.0 at there)
@@ -243,7 +243,7 @@ not_true : (b : Bool) → not b ≡ true → b ≡ true → ⊥
 not_true true e f = absurd cc
 not_true false e f = absurd cc
 
-find_here : (ts : List FedTrack) (i : ℕ) (d : FedTrack) → are_distinct (map fed_id ts) ≡ true → i < length ts → find_fed ts (get_or ts i d).id ≡ Some (get_or ts i d)
+pub find_here : (ts : List FedTrack) (i : ℕ) (d : FedTrack) → are_distinct (map fed_id ts) ≡ true → i < length ts → find_fed ts (get_or ts i d).id ≡ Some (get_or ts i d)
 find_here [] i d distinct lt = absurd (omega arith)
 find_here (t ∷ ts) zero d distinct lt = (let e = same_yes t.id t.id refl in rw e refl)
 find_here (t ∷ ts) (suc i) d distinct lt =

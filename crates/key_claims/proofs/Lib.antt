@@ -7,3 +7,4 @@ pub mod Lists
 pub mod Sound
 pub mod Readiness
 pub mod Fitting
+pub mod InHand

@@ -6,6 +6,8 @@ mod claim;
 mod claims;
 mod feed;
 mod slots;
+#[cfg(test)]
+mod tests;
 mod track;
 mod tracks;
 
