@@ -1,5 +1,5 @@
 -- Each claim goes on fitting its sample.
-use Rattle.std.proofs.Common.{zero, suc, ◌≡◌, ℕ, ◌+◌, ◌<◌, ◌≤◌, Bool, true, false, not, ◌&&◌, ◌||◌, IsTrue, List, [], ◌∷◌, ◌++◌, length, get_or, Option, Some, None, is_some, inl, inr, refl, ap, sym, subst, ◌∙◌, ◌⊎◌, arith, map, eqb, Result, Ok, Err, true≢false, length-append}
+use Rattle.std.proofs.Common.{zero, suc, ◌≡◌, ℕ, ◌+◌, ◌<◌, ◌≤◌, Bool, true, false, not, ◌&&◌, ◌||◌, IsTrue, List, [], ◌∷◌, ◌++◌, length, get_or, Option, Some, None, inl, inr, refl, ap, sym, subst, ◌∙◌, ◌⊎◌, arith, map, eqb, Result, Ok, Err, true≢false, length-append}
 use Rattle.std.specs.Prelude.{if◌then◌else◌, slice_get, IfOk, OnErr}
 use Rattle.std.specs.List.{filter}
 use Rattle.std.proofs.Math.Nat.{eq-or-lt_of_le}
@@ -15,12 +15,12 @@ use Rattle.key_statuses.specs.Tracks.{Picks, head}
 use Rattle.key_claims.specs.declared.claim.Claim.{Claim}
 use Rattle.key_claims.specs.declared.claim.ClaimFault.{ClaimFault}
 use Rattle.key_claims.specs.declared.choice.Work.{Work}
-use Rattle.key_claims.specs.TracksState.{ClaimState, FedTrack, TracksState, track_of}
-use Rattle.key_claims.specs.Claims.{is_other, claimed_in, has_place, give_clear, DeliversTo}
+use Rattle.key_claims.specs.TracksState.{ClaimState, FedTrack, track_of}
+use Rattle.key_claims.specs.Claims.{is_other, claimed_in, give_clear, DeliversTo}
 use Rattle.key_claims.specs.Changes.{empty_fed, find_fed, changed_at, change_fed, more_out, more_fed, feed_one, feed_all, with_waiting}
-use Rattle.key_claims.specs.Choice.{IsWork, IsWorkOn, IsReady, free_pick, claim_pick, protect_of, protect_at}
+use Rattle.key_claims.specs.Choice.{IsWork, IsWorkOn, IsReady, free_pick, protect_at}
 use Rattle.key_claims.specs.Contract.{HoldsWork, claimed}
-use Rattle.key_claims.specs.Fits.{Fits, Apart, IsOpened, IsInHand, fed_at, fed_sample}
+use Rattle.key_claims.specs.Fits.{Fits, Apart, IsInHand, fed_at, fed_sample}
 use Rattle.key_claims.specs.Kept.{fed_id}
 use Rattle.key_claims.proofs.Lists.{same_yes, not_same}
 use Rattle.key_claims.proofs.Sound.{In_filter, In_more}

@@ -1,6 +1,6 @@
 -- Which claims can be delivered after a call.
-use Rattle.std.proofs.Common.{◌≡◌, ◌≢◌, ℕ, ◌+◌, ◌<◌, Bool, true, false, IsTrue, List, [], ◌∷◌, ◌++◌, length, get_or, Option, Some, None, inl, inr, refl, ap, sym, subst, ◌∙◌, arith, map, Result, Ok, Err}
-use Rattle.std.specs.Prelude.{if◌then◌else◌, slice_get, IfOk, OnErr}
+use Rattle.std.proofs.Common.{◌≡◌, ◌≢◌, ℕ, ◌+◌, ◌<◌, Bool, true, false, List, [], ◌∷◌, ◌++◌, get_or, Some, inl, inr, refl, ap, sym, subst, ◌∙◌, arith, Result, Ok, Err}
+use Rattle.std.specs.Prelude.{if◌then◌else◌, IfOk, OnErr}
 use Rattle.std.specs.List.{filter}
 use Rattle.key_statuses.specs.In.{In}
 use Rattle.key_statuses.specs.Tracks.{Picks}
@@ -9,13 +9,13 @@ use Rattle.key_claims.specs.declared.claim.ClaimFault.{ClaimFault}
 use Rattle.key_claims.specs.declared.claim.Delivered.{Delivered}
 use Rattle.key_claims.specs.declared.claim.Delivered.TheVariants.{Taken, Stale}
 use Rattle.key_claims.specs.TracksState.{ClaimState, FedTrack, TracksState}
-use Rattle.key_claims.specs.Claims.{is_other, is_under, revoked, give_clear}
+use Rattle.key_claims.specs.Claims.{revoked}
 use Rattle.key_claims.specs.Changes.{empty_fed, find_fed}
-use Rattle.key_claims.specs.Contract.{AreBelow, HoldsWork, Claims, Delivers, claimed}
-use Rattle.key_claims.specs.Fits.{IsInHand, MayDeliver, fed_at, fed_sample}
+use Rattle.key_claims.specs.Contract.{AreBelow, Claims, Delivers, claimed}
+use Rattle.key_claims.specs.Fits.{IsInHand, MayDeliver}
 use Rattle.key_claims.specs.Kept.{AreSound}
 use Rattle.key_claims.proofs.Sound.{In_filter, In_more}
-use Rattle.key_claims.proofs.Fitting.{GivenFrom, given_from, find_here}
+use Rattle.key_claims.proofs.Fitting.{given_from, find_here}
 
 -- places
 below_next : (n : ℕ) (cs : List ClaimState) → AreBelow n cs → AreBelow (n + 1) cs
