@@ -1,14 +1,14 @@
 -- The slot of a place, and what readers of slots pass over.
 use Rattle.std.proofs.Common.{zero, suc, ◌≡◌, ℕ, ◌+◌, ◌<◌, Bool, true, false, eqb, not, List, [], ◌∷◌, length, take, drop, get_or, set, add-one, Option, Some, None, refl, ap, sym, ◌∙◌, arith, inl, inr, Result, Ok, Err}
-use Rattle.std.specs.Prelude.{slice_get, ◌&&◌, ◌||◌, if◌then◌else◌, is_some, OnErr}
+use Rattle.std.specs.Prelude.{slice_get, ◌&&◌, ◌||◌, if◌then◌else◌, OnErr}
 use Rattle.std.specs.List.{filter, remove}
 use Rattle.std.proofs.lemmas.Bool.Decides.{eqb_tells}
 use Rattle.key_claims.specs.declared.slots.Generation.{Generation}
 use Rattle.key_claims.specs.declared.slots.Slot.{Slot}
 use Rattle.key_claims.specs.SlotsKept.{AllBehind, SlotsKept}
 use Rattle.key_claims.specs.TracksState.{ClaimState}
-use Rattle.key_claims.specs.Claims.{has_place, give_clear, clear_at, claimed_in, ready_claim, is_other}
-use Rattle.key_claims.specs.Slots.{claim_with, claim_in, slot_claim, add_some, claims_in, current_in, is_current, is_at, is_current_on, is_given_on, is_other_slot, NoneAt, IsSlotOf, with_clear}
+use Rattle.key_claims.specs.Claims.{has_place, give_clear, clear_at, is_other}
+use Rattle.key_claims.specs.Slots.{claim_with, claim_in, slot_claim, add_some, claims_in, current_in, is_current, is_at, is_other_slot, NoneAt, IsSlotOf, with_clear}
 
 both : (a b : Bool) → (a && b) ≡ true → (a ≡ true) × (b ≡ true)
 both true b e = (refl, e)
@@ -95,58 +95,6 @@ drop_more ss i d lt = rw add-one (go ss i lt) where
   go [] i lt = absurd (omega arith)
   go (s ∷ ss) zero lt = refl
   go (s ∷ ss) (suc i) lt = go ss i (omega arith)
-
-claimed_skip : (o : Option Generation) (s : Slot) (track index : ℕ) (cs : List ClaimState) → ((eqb s.track track && eqb s.index index) && current_in o s.generation) ≡ false → claimed_in (add_some (claim_in o s) cs) track index ≡ claimed_in cs track index
-claimed_skip None s track index cs e = refl
-claimed_skip (Some g) s track index cs e = go (eqb g.number s.generation) e where
-  go : (b : Bool) → ((eqb s.track track && eqb s.index index) && b) ≡ false → claimed_in (add_some (if b then Some (claim_with g s) else None) cs) track index ≡ claimed_in cs track index
-  go false e = refl
-  go true e = (let no = and_left (eqb s.track track && eqb s.index index) e in rw no refl)
-
-claimed_here : (o : Option Generation) (s : Slot) (track index : ℕ) (cs : List ClaimState) → ((eqb s.track track && eqb s.index index) && current_in o s.generation) ≡ true → claimed_in (add_some (claim_in o s) cs) track index ≡ true
-claimed_here None s track index cs e = absurd (let no : false ≡ true = (both (eqb s.track track && eqb s.index index) false e).1 in cc)
-claimed_here (Some g) s track index cs e = (let k = both (eqb s.track track && eqb s.index index) (eqb g.number s.generation) e in rw (k.1, k.0) refl)
-
--- a reader of claims passes over a slot that holds none on the sample
-pub claimed_past : (gs : List Generation) (ss : List Slot) (track index i : ℕ) (d : Slot) → i < length ss → is_current_on gs track index (get_or ss i d) ≡ false → claimed_in (claims_in gs (drop (i + 1) ss)) track index ≡ claimed_in (claims_in gs (drop i ss)) track index
-claimed_past gs ss track index i d lt is =
-    let s = get_or ss i d in
-    rw (drop_more ss i d lt) (sym (claimed_skip (slice_get gs s.entry) s track index (claims_in gs (drop (i + 1) ss)) is))
-
-pub claimed_at : (gs : List Generation) (ss : List Slot) (track index i : ℕ) (d : Slot) → i < length ss → is_current_on gs track index (get_or ss i d) ≡ true → claimed_in (claims_in gs (drop i ss)) track index ≡ true
-claimed_at gs ss track index i d lt is =
-    let s = get_or ss i d in
-    rw (drop_more ss i d lt) (claimed_here (slice_get gs s.entry) s track index (claims_in gs (drop (i + 1) ss)) is)
-
-three : (a b c : Bool) → ((a && b) && c) ≡ true → (a ≡ true) × (b ≡ true) × (c ≡ true)
-three a b c e = (let k = both (a && b) c e in let m = both a b k.0 in (m.0, m.1, k.1))
-
-mid_false : (a c : Bool) → ((a && true) && c) ≡ false → (a && c) ≡ false
-mid_false true c e = e
-mid_false false c e = refl
-
-ready_skip : (o : Option Generation) (s : Slot) (track index : ℕ) (cs : List ClaimState) → (((eqb s.track track && eqb s.index index) && current_in o s.generation) && is_some s.clear) ≡ false → ready_claim (add_some (claim_in o s) cs) track index ≡ ready_claim cs track index
-ready_skip None s track index cs e = refl
-ready_skip (Some g) s track index cs e = go (eqb g.number s.generation) e where
-  go : (b : Bool) → (((eqb s.track track && eqb s.index index) && b) && is_some s.clear) ≡ false → ready_claim (add_some (if b then Some (claim_with g s) else None) cs) track index ≡ ready_claim cs track index
-  go false e = refl
-  go true e = (let no = mid_false (eqb s.track track && eqb s.index index) (is_some s.clear) e in rw no refl)
-
-ready_here : (o : Option Generation) (s : Slot) (track index : ℕ) (cs : List ClaimState) → (((eqb s.track track && eqb s.index index) && current_in o s.generation) && is_some s.clear) ≡ true → ready_claim (add_some (claim_in o s) cs) track index ≡ Some s.place
-ready_here None s track index cs e = absurd (let no : false ≡ true = (three (eqb s.track track && eqb s.index index) false (is_some s.clear) e).1 in cc)
-ready_here (Some g) s track index cs e =
-    let k = three (eqb s.track track && eqb s.index index) (eqb g.number s.generation) (is_some s.clear) e in
-    rw (k.1, k.0, k.2) refl
-
-pub ready_past : (gs : List Generation) (ss : List Slot) (track index i : ℕ) (d : Slot) → i < length ss → is_given_on gs track index (get_or ss i d) ≡ false → ready_claim (claims_in gs (drop (i + 1) ss)) track index ≡ ready_claim (claims_in gs (drop i ss)) track index
-ready_past gs ss track index i d lt is =
-    let s = get_or ss i d in
-    rw (drop_more ss i d lt) (sym (ready_skip (slice_get gs s.entry) s track index (claims_in gs (drop (i + 1) ss)) is))
-
-pub ready_at : (gs : List Generation) (ss : List Slot) (track index i : ℕ) (d : Slot) → i < length ss → is_given_on gs track index (get_or ss i d) ≡ true → ready_claim (claims_in gs (drop i ss)) track index ≡ Some (get_or ss i d).place
-ready_at gs ss track index i d lt is =
-    let s = get_or ss i d in
-    rw (drop_more ss i d lt) (ready_here (slice_get gs s.entry) s track index (claims_in gs (drop (i + 1) ss)) is)
 
 -- without the slots of ended claims
 ended_skip : (o : Option Generation) (s : Slot) (cs : List ClaimState) → current_in o s.generation ≡ false → add_some (claim_in o s) cs ≡ cs
