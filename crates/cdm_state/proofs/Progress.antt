@@ -12,7 +12,7 @@ use Rattle.eme_types.specs.declared.entry.Verdict.{Verdict}
 use Rattle.eme_types.specs.declared.entry.Verdict.TheVariants.{Taken, Stale}
 use Rattle.key_claims.specs.TracksState.{ClaimState}
 use Rattle.key_sessions.specs.Machine.{Machine}
-use Rattle.key_sessions.specs.Keys.{pick}
+use Rattle.key_sessions.specs.Keys.{held_key, pick}
 use Rattle.key_statuses.specs.Tracks.{TrackState, head, find_track, Unpicked, HeadAtRest}
 use Rattle.key_sessions.specs.World.{World}
 use Rattle.cdm_state.specs.After.{after_entry}
@@ -126,8 +126,8 @@ module _ (ids : List ℕ) (h : List Entry) (legal : IsLegal ids h) (none : NoneW
       let a = all_asleep ids h legal t.id t known waits in
       let one : a.sample ≡ x = some_alone a.sample x (sym a.fed ∙ fed) in
       let same : a.protect ≡ p = some_alone a.protect p (sym a.protected ∙ (ap (λ (y : EncSample). y.protect) one ∙ protected)) in
-      let some : is_some (pick (world ids h).machine a.protect.kid) ≡ true = ap (λ (q : Protect). is_some (pick (world ids h).machine q.kid)) same ∙ ap is_some picked in
-      absurd (true≢false (sym (a.queued some) ∙ ap resume_queued idle.tasks))
+      let holds : held_key (world ids h).machine r.0 a.protect.kid ≡ Some r.1 = ap (λ (q : Protect). held_key (world ids h).machine r.0 q.kid) same ∙ pick_holds (world ids h).machine p.kid r.0 r.1 picked in
+      absurd (true≢false (sym (a.queued r.0 (ap is_some holds)) ∙ ap (resume_queued r.0) idle.tasks))
 
   -- a track that does not wait may begin to, be claimed on or give its sample out
   awake_moves : (o : Option (ℕ × KeyBytes)) → t.waiting ≡ false → pick (world ids h).machine p.kid ≡ o → ⊥

@@ -1,4 +1,4 @@
--- A track that waits: its head is protected and has no live claim, and once the head's key id has a pick what looks at it again is queued.
+-- A track that waits: its head is protected and has no live claim, and for each session that holds the head's key what looks at it again is queued.
 use Rattle.std.proofs.Common.{zero, suc, ◌≡◌, ◌≢◌, ℕ, ◌-◌, ◌⊎◌, inl, inr, Bool, true, false, List, [], ◌∷◌, ◌++◌, map, Option, Some, None, is_some, refl, ap, sym, subst, ◌∙◌, true≢false, eqb}
 use Rattle.std.specs.Prelude.{slice_get, if◌then◌else◌}
 use Rattle.std.proofs.lemmas.Bool.Decides.{eqb_tells}
@@ -22,7 +22,7 @@ use Rattle.cdm_state.proofs.Places.{either_place}
 use Rattle.cdm_state.proofs.Histories.{world_more, legal_induction}
 use Rattle.cdm_state.proofs.Live.{live_less, at_within}
 use Rattle.cdm_state.specs.Waiting.{resume_queued, WaitsOnlyForKeys}
-use Rattle.cdm_state.proofs.Usable.{held_picked, any_usable, picked_any, Carries, carries_same, carries_call, carries_job, carries_tick, carries_more, carries_task}
+use Rattle.cdm_state.proofs.Usable.{is_held, held_some, Carries, carries_same, carries_call, carries_job, carries_tick, carries_more, carries_task}
 
 some_alone : {A : Type 0} (x y : A) → Some x ≡ Some y → x ≡ y
 some_alone x y e = cc
@@ -42,7 +42,7 @@ pub record Asleep (ids : List ℕ) (h : List Entry) (id : ℕ) (t : TrackState) 
   pub protect : Protect
   pub protected : sample.protect ≡ Some protect
   pub free : (place : ℕ) → LiveOn ids h place id t.published → ⊥
-  pub queued : is_some (pick (world ids h).machine protect.kid) ≡ true → resume_queued (world ids h).machine.tasks ≡ true
+  pub queued : (session : ℕ) → is_held (world ids h).machine.moment (world ids h).machine.sessions session protect.kid ≡ true → resume_queued session (world ids h).machine.tasks ≡ true
 
 abbrev pub AllAsleep : List ℕ → List Entry → Type 0
 AllAsleep ids h = (id : ℕ) (t : TrackState) → find_track (world ids h).tracks id ≡ Some t → t.waiting ≡ true → Asleep ids h id t
@@ -58,14 +58,13 @@ stays_asleep ids h e id t u a same up new c = record {
     | inl l ↦ a.free place (subst (λ (n : ℕ). LiveOn ids h place id n) same l)
     | inr x ↦ new (subst (λ (n : ℕ). IsOn e id n) same x)
   ];
-  queued = λ picked.
-      let p : is_some (pick (after_entry (world ids h) e).machine a.protect.kid) ≡ true = subst (λ (v : World). is_some (pick v.machine a.protect.kid) ≡ true) (world_more ids h e) picked in
-      let q : any_usable (after_entry (world ids h) e).machine.moment (after_entry (world ids h) e).machine.sessions a.protect.kid ≡ true = sym (picked_any (after_entry (world ids h) e).machine a.protect.kid) ∙ p in
-      let r : resume_queued (after_entry (world ids h) e).machine.tasks ≡ true = elim (c.picked a.protect.kid q) [
-        | inl old ↦ c.queued (a.queued (picked_any (world ids h).machine a.protect.kid ∙ old))
+  queued = λ session held.
+      let p : is_held (after_entry (world ids h) e).machine.moment (after_entry (world ids h) e).machine.sessions session a.protect.kid ≡ true = subst (λ (v : World). is_held v.machine.moment v.machine.sessions session a.protect.kid ≡ true) (world_more ids h e) held in
+      let r : resume_queued session (after_entry (world ids h) e).machine.tasks ≡ true = elim (c.held session a.protect.kid p) [
+        | inl old ↦ c.queued session (a.queued session old)
         | inr now ↦ now
       ] in
-      subst (λ (v : World). resume_queued v.machine.tasks ≡ true) (sym (world_more ids h e)) r;
+      subst (λ (v : World). resume_queued session v.machine.tasks ≡ true) (sym (world_more ids h e)) r;
 }
 
 -- the track that is found after one is changed
@@ -173,8 +172,9 @@ asleep_now ids h track id t u there may same is =
         | inl l ↦ may.free place (subst (λ (n : ℕ). LiveOn ids h place n may.state.published) (sym same) (subst (λ (n : ℕ). LiveOn ids h place id n) out l))
         | inr x ↦ x
       ];
-      queued = λ picked.
-          let p : is_some (pick (after_entry (world ids h) (WaitForKey track)).machine may.protect.kid) ≡ true = subst (λ (v : World). is_some (pick v.machine may.protect.kid) ≡ true) (world_more ids h (WaitForKey track)) picked in
+      queued = λ session held.
+          let q : is_held (after_entry (world ids h) (WaitForKey track)).machine.moment (after_entry (world ids h) (WaitForKey track)).machine.sessions session may.protect.kid ≡ true = subst (λ (v : World). is_held v.machine.moment v.machine.sessions session may.protect.kid ≡ true) (world_more ids h (WaitForKey track)) held in
+          let p : is_some (pick (world ids h).machine may.protect.kid) ≡ true = held_some (world ids h).machine session may.protect.kid q in
           let none : is_some (pick (world ids h).machine may.protect.kid) ≡ false = ap is_some may.unpicked in
           absurd (true≢false (sym p ∙ none));
     }
@@ -208,9 +208,9 @@ asleep_resumed ids h ts id u front all found waits =
       protect = a.protect;
       protected = a.protected;
       free = λ place on. elim (live_or_new ids h Task place id u.published on) [ inl l ↦ a.free place l | inr x ↦ x ];
-      queued = λ picked.
-          let p : is_some (pick (after_entry (world ids h) Task).machine a.protect.kid) ≡ true = subst (λ (v : World). is_some (pick v.machine a.protect.kid) ≡ true) (world_more ids h Task) picked in
-          let q : is_some (pick m a.protect.kid) ≡ true = subst (λ (k : Machine). is_some (pick k a.protect.kid) ≡ true) after p in
+      queued = λ session held.
+          let p : is_held (after_entry (world ids h) Task).machine.moment (after_entry (world ids h) Task).machine.sessions session a.protect.kid ≡ true = subst (λ (v : World). is_held v.machine.moment v.machine.sessions session a.protect.kid ≡ true) (world_more ids h Task) held in
+          let q : is_some (pick m a.protect.kid) ≡ true = held_some m session a.protect.kid (subst (λ (k : Machine). is_held k.moment k.sessions session a.protect.kid ≡ true) after p) in
           absurd (true≢false (sym q ∙ none));
     }
 
@@ -280,5 +280,5 @@ waits_only ids h id t legal found waits = (let a = all_asleep ids h legal id t f
   protect = a.protect;
   protected = a.protected;
   free = a.free;
-  woken = λ session key holds. a.queued (held_picked (world ids h).machine session a.protect.kid key holds);
+  woken = λ session key holds. a.queued session (ap is_some holds);
 })

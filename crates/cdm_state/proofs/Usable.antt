@@ -1,9 +1,9 @@
--- Which key ids come to have a pick: only an update gives one, and then it queues what looks at the tracks that wait.
+-- Which sessions come to hold a usable key: only an update gives one, and then it queues what looks at the tracks that wait.
 use Rattle.std.proofs.Common.{zero, suc, ◌≡◌, ℕ, ◌+◌, ◌<◌, ◌≤◌, ◌⊎◌, inl, inr, Bool, true, false, ◌&&◌, ◌||◌, not, List, [], ◌∷◌, ◌++◌, map, length, Option, Some, None, is_some, Result, Ok, Err, refl, ap, sym, subst, ◌∙◌, arith}
-use Rattle.std.specs.Prelude.{slice_get, if◌then◌else◌, nat_lt, codes}
+use Rattle.std.specs.Prelude.{slice_get, if◌then◌else◌, nat_lt, codes, ◌==◌}
 use Rattle.std.specs.Str.{bytes_eq}
 use Rattle.std.proofs.lemmas.Bool.{ltb-true}
-use Rattle.std.proofs.lemmas.Bool.Decides.{Decides-ltb}
+use Rattle.std.proofs.lemmas.Bool.Decides.{Decides-ltb, Decides-eqb}
 use Rattle.std.proofs.lemmas.Slice.Eq.{bytes_eq-Decides}
 use Rattle.eme_types.specs.declared.kid.KeyBytes.{KeyBytes}
 use Rattle.eme_types.specs.declared.kid.Status.{Status}
@@ -30,7 +30,7 @@ use Rattle.task_queue.specs.declared.work.Task.TheVariants.{Reject, RequestDone,
 use Rattle.key_statuses.specs.Table.{key_in, grant_all, released}
 use Rattle.key_statuses.specs.Statuses.{held_status, is_usable, status_of, comes_before, insert_status, statuses_from, statuses, same_key, same_table, same_status, same_statuses, is_changed}
 use Rattle.key_sessions.specs.Machine.{SessionState, Machine, new_session, session_at, change_at, change_session}
-use Rattle.key_sessions.specs.Keys.{usable_key, key_of, held_key, or_else, pick_from, pick}
+use Rattle.key_sessions.specs.Keys.{usable_key, key_of, held_in, held_key, or_else, pick_from, pick}
 use Rattle.key_sessions.specs.Steps.{Done, unmoved, with_session, queue_task, statuses_now, update_statuses}
 use Rattle.key_system_access.specs.Configs.{configs_of}
 use Rattle.key_sessions.specs.Calls.{access_result, answer_now, answer_later, create_call, add_session, find_label, is_ending, request_on, request_started, request_kind, start_request, update_on, update_or, or_empty, state_fault, close_on, start_closing, remove_on, remove_or, after_call}
@@ -85,37 +85,45 @@ session_held moment ss (suc i) kid key e = at_any moment ss i kid key e
 pub held_picked : (m : Machine) (session : ℕ) (kid : List ℕ) (key : KeyBytes) → held_key m session kid ≡ Some key → is_some (pick m kid) ≡ true
 held_picked m session kid key e = picked_any m kid ∙ session_held m.moment m.sessions session kid key e
 
+-- the session holds a usable key under the id
+abbrev pub is_held : ℕ → List SessionState → ℕ → List ℕ → Bool
+is_held moment ss session kid = is_some (held_in moment ss session kid)
+
+-- so the id has a pick
+pub held_some : (m : Machine) (session : ℕ) (kid : List ℕ) → is_held m.moment m.sessions session kid ≡ true → is_some (pick m kid) ≡ true
+held_some m session kid e = go (held_key m session kid) refl e where
+  go : (o : Option KeyBytes) → held_key m session kid ≡ o → is_some o ≡ true → is_some (pick m kid) ≡ true
+  go None is e = absurd cc
+  go (Some key) is e = held_picked m session kid key is
+
 -- where no session gains a usable key
 abbrev NoMore : ℕ → List SessionState → List SessionState → Type 0
-NoMore moment old new = (kid : List ℕ) → any_usable moment new kid ≡ true → any_usable moment old kid ≡ true
+NoMore moment old new = (session : ℕ) (kid : List ℕ) → is_held moment new session kid ≡ true → is_held moment old session kid ≡ true
 
-change_any : (X : Type 0) (moment : ℕ) (f : SessionState → SessionState) (kid : List ℕ) (ss : List SessionState) (i : ℕ) → ((s : SessionState) → slice_get ss i ≡ Some s → is_some (usable_key moment (f s) kid) ≡ true → (is_some (usable_key moment s kid) ≡ true) ⊎ X) → any_usable moment (change_at ss i f) kid ≡ true → (any_usable moment ss kid ≡ true) ⊎ X
-change_any X moment f kid [] i one e = inl e
-change_any X moment f kid (s ∷ ss) zero one e =
-    elim (or_cases (is_some (usable_key moment (f s) kid)) (any_usable moment ss kid) e) [
-      | inl a ↦ elim (one s refl a) [ inl b ↦ inl (or_first (is_some (usable_key moment s kid)) (any_usable moment ss kid) b) | inr x ↦ inr x ]
-      | inr b ↦ inl (or_second (is_some (usable_key moment s kid)) (any_usable moment ss kid) b)
-    ]
-change_any X moment f kid (s ∷ ss) (suc i) one e =
-    elim (or_cases (is_some (usable_key moment s kid)) (any_usable moment (change_at ss i f) kid) e) [
-      | inl a ↦ inl (or_first (is_some (usable_key moment s kid)) (any_usable moment ss kid) a)
-      | inr b ↦ elim (change_any X moment f kid ss i one b) [ inl c ↦ inl (or_second (is_some (usable_key moment s kid)) (any_usable moment ss kid) c) | inr x ↦ inr x ]
-    ]
+change_held : (X : Type 0) (moment : ℕ) (f : SessionState → SessionState) (kid : List ℕ) (ss : List SessionState) (i j : ℕ) → ((s : SessionState) → slice_get ss i ≡ Some s → i ≡ j → is_some (usable_key moment (f s) kid) ≡ true → (is_some (usable_key moment s kid) ≡ true) ⊎ X) → is_some (key_of moment (slice_get (change_at ss i f) j) kid) ≡ true → (is_some (key_of moment (slice_get ss j) kid) ≡ true) ⊎ X
+change_held X moment f kid [] i j one e = inl e
+change_held X moment f kid (s ∷ ss) zero zero one e = one s refl refl e
+change_held X moment f kid (s ∷ ss) zero (suc j) one e = inl e
+change_held X moment f kid (s ∷ ss) (suc i) zero one e = inl e
+change_held X moment f kid (s ∷ ss) (suc i) (suc j) one e = change_held X moment f kid ss i j (λ t at same u. one t at (ap suc same) u) e
 
-session_any : (X : Type 0) (moment : ℕ) (f : SessionState → SessionState) (kid : List ℕ) (ss : List SessionState) (n : ℕ) → ((s : SessionState) → session_at ss n ≡ Some s → is_some (usable_key moment (f s) kid) ≡ true → (is_some (usable_key moment s kid) ≡ true) ⊎ X) → any_usable moment (change_session ss n f) kid ≡ true → (any_usable moment ss kid ≡ true) ⊎ X
-session_any X moment f kid ss zero one e = inl e
-session_any X moment f kid ss (suc i) one e = change_any X moment f kid ss i one e
+session_held_after : (X : Type 0) (moment : ℕ) (f : SessionState → SessionState) (kid : List ℕ) (ss : List SessionState) (n session : ℕ) → ((s : SessionState) → session_at ss n ≡ Some s → n ≡ session → is_some (usable_key moment (f s) kid) ≡ true → (is_some (usable_key moment s kid) ≡ true) ⊎ X) → is_held moment (change_session ss n f) session kid ≡ true → (is_held moment ss session kid ≡ true) ⊎ X
+session_held_after X moment f kid ss zero session one e = inl e
+session_held_after X moment f kid ss (suc i) zero one e = inl e
+session_held_after X moment f kid ss (suc i) (suc j) one e = change_held X moment f kid ss i j (λ t at same u. one t at (ap suc same) u) e
 
 change_no_more : (moment : ℕ) (ss : List SessionState) (n : ℕ) (f : SessionState → SessionState) → ((s : SessionState) (kid : List ℕ) → is_some (usable_key moment (f s) kid) ≡ true → is_some (usable_key moment s kid) ≡ true) → NoMore moment ss (change_session ss n f)
-change_no_more moment ss n f one kid e = elim (session_any ⊥ moment f kid ss n (λ s at u. inl (one s kid u)) e) [ inl a ↦ a | inr x ↦ absurd x ]
+change_no_more moment ss n f one session kid e = elim (session_held_after ⊥ moment f kid ss n session (λ s at same u. inl (one s kid u)) e) [ inl a ↦ a | inr x ↦ absurd x ]
+
+new_at : (moment : ℕ) (ss : List SessionState) (label : List ℕ) (i : ℕ) (kid : List ℕ) → is_some (key_of moment (slice_get (ss ++ new_session label ∷ []) i) kid) ≡ true → is_some (key_of moment (slice_get ss i) kid) ≡ true
+new_at moment [] label zero kid e = e
+new_at moment [] label (suc i) kid e = e
+new_at moment (s ∷ ss) label zero kid e = e
+new_at moment (s ∷ ss) label (suc i) kid e = new_at moment ss label i kid e
 
 new_no_more : (moment : ℕ) (ss : List SessionState) (label : List ℕ) → NoMore moment ss (ss ++ new_session label ∷ [])
-new_no_more moment [] label kid e = e
-new_no_more moment (s ∷ ss) label kid e =
-    elim (or_cases (is_some (usable_key moment s kid)) (any_usable moment (ss ++ new_session label ∷ []) kid) e) [
-      | inl a ↦ or_first (is_some (usable_key moment s kid)) (any_usable moment ss kid) a
-      | inr b ↦ or_second (is_some (usable_key moment s kid)) (any_usable moment ss kid) (new_no_more moment ss label kid b)
-    ]
+new_no_more moment ss label zero kid e = e
+new_no_more moment ss label (suc i) kid e = new_at moment ss label i kid e
 
 -- the parts of a usable key
 is_used : (closed u : Bool) (k : Option KeyBytes) → is_some (if closed then None else (if u then k else None)) ≡ true → (closed ≡ false) × (u ≡ true) × (is_some k ≡ true)
@@ -146,13 +154,9 @@ later_one old new s kid le e =
     let u = is_used s.closed (is_usable (held_status s.expiration new)) (key_in s.keys kid) e in
     used_if s.closed (is_usable (held_status s.expiration old)) (key_in s.keys kid) u.0 (later_held s.expiration old new le u.1) u.2
 
-later_any : (old new : ℕ) (ss : List SessionState) (kid : List ℕ) → old ≤ new → any_usable new ss kid ≡ true → any_usable old ss kid ≡ true
-later_any old new [] kid le e = e
-later_any old new (s ∷ ss) kid le e =
-    elim (or_cases (is_some (usable_key new s kid)) (any_usable new ss kid) e) [
-      | inl a ↦ or_first (is_some (usable_key old s kid)) (any_usable old ss kid) (later_one old new s kid le a)
-      | inr b ↦ or_second (is_some (usable_key old s kid)) (any_usable old ss kid) (later_any old new ss kid le b)
-    ]
+later_held_one : (old new : ℕ) (o : Option SessionState) (kid : List ℕ) → old ≤ new → is_some (key_of new o kid) ≡ true → is_some (key_of old o kid) ≡ true
+later_held_one old new None kid le e = e
+later_held_one old new (Some s) kid le e = later_one old new s kid le e
 
 -- sessions that lose their keys
 none_released : (ks : List KnownKey) (kid : List ℕ) → is_some (key_in (map released ks) kid) ≡ true → ⊥
@@ -280,35 +284,35 @@ change_seen closed old new before after kid e = go (is_used closed (is_usable af
 
 -- What looks at the tracks that wait: a `Resume`, and an update that will queue one.
 
-pub queued_left : (ts us : List Task) → resume_queued ts ≡ true → resume_queued (ts ++ us) ≡ true
-queued_left [] us e = absurd cc
-queued_left (t ∷ ts) us e =
-    elim (or_cases (will_resume t) (resume_queued ts) e) [
-      | inl a ↦ or_first (will_resume t) (resume_queued (ts ++ us)) a
-      | inr b ↦ or_second (will_resume t) (resume_queued (ts ++ us)) (queued_left ts us b)
+pub queued_left : (session : ℕ) (ts us : List Task) → resume_queued session ts ≡ true → resume_queued session (ts ++ us) ≡ true
+queued_left session [] us e = absurd cc
+queued_left session (t ∷ ts) us e =
+    elim (or_cases (will_resume session t) (resume_queued session ts) e) [
+      | inl a ↦ or_first (will_resume session t) (resume_queued session (ts ++ us)) a
+      | inr b ↦ or_second (will_resume session t) (resume_queued session (ts ++ us)) (queued_left session ts us b)
     ]
 
-queued_right : (ts us : List Task) → resume_queued us ≡ true → resume_queued (ts ++ us) ≡ true
-queued_right [] us e = e
-queued_right (t ∷ ts) us e = or_second (will_resume t) (resume_queued (ts ++ us)) (queued_right ts us e)
+queued_right : (session : ℕ) (ts us : List Task) → resume_queued session us ≡ true → resume_queued session (ts ++ us) ≡ true
+queued_right session [] us e = e
+queued_right session (t ∷ ts) us e = or_second (will_resume session t) (resume_queued session (ts ++ us)) (queued_right session ts us e)
 
--- from one machine to the next: what is to resume stays queued, and an id with a new pick has it queued
+-- from one machine to the next: what is to resume stays queued, and a session with a new usable key has it queued
 pub record Carries (before : List Task) (m n : Machine) : Type 0 where
-  pub queued : resume_queued before ≡ true → resume_queued n.tasks ≡ true
-  pub picked : (kid : List ℕ) → any_usable n.moment n.sessions kid ≡ true → (any_usable m.moment m.sessions kid ≡ true) ⊎ (resume_queued n.tasks ≡ true)
+  pub queued : (session : ℕ) → resume_queued session before ≡ true → resume_queued session n.tasks ≡ true
+  pub held : (session : ℕ) (kid : List ℕ) → is_held n.moment n.sessions session kid ≡ true → (is_held m.moment m.sessions session kid ≡ true) ⊎ (resume_queued session n.tasks ≡ true)
 
 pub carries_same : (m : Machine) → Carries m.tasks m m
-carries_same m = record { queued = λ e. e; picked = λ kid e. inl e }
+carries_same m = record { queued = λ session e. e; held = λ session kid e. inl e }
 
 -- a call
 carries_now : (m : Machine) (ss : List SessionState) (how : Settled) → NoMore m.moment m.sessions ss → Carries m.tasks m (answer_now how (record m { sessions = ss })).machine
-carries_now m ss how none = record { queued = λ e. e; picked = λ kid e. inl (none kid e) }
+carries_now m ss how none = record { queued = λ session e. e; held = λ session kid e. inl (none session kid e) }
 
 carries_later : (m : Machine) (ss : List SessionState) (job : ℕ → Job) → NoMore m.moment m.sessions ss → Carries m.tasks m (answer_later job (record m { sessions = ss })).machine
-carries_later m ss job none = record { queued = λ e. e; picked = λ kid e. inl (none kid e) }
+carries_later m ss job none = record { queued = λ session e. e; held = λ session kid e. inl (none session kid e) }
 
 all_same : (m : Machine) → NoMore m.moment m.sessions m.sessions
-all_same m kid e = e
+all_same m session kid e = e
 
 choose : (m : Machine) (b : Bool) (x y : Done) → Carries m.tasks m x.machine → Carries m.tasks m y.machine → Carries m.tasks m (if b then x else y).machine
 choose m true x y p q = p
@@ -356,7 +360,7 @@ carries_call m (Certificate cert) = carries_now m m.sessions ResolvedFalse (all_
 
 -- a job queues one task
 carries_queue : (m : Machine) (ss : List SessionState) (js : List Job) (task : Task) → NoMore m.moment m.sessions ss → Carries m.tasks m (record m { sessions = ss; jobs = js; tasks = m.tasks ++ task ∷ [] })
-carries_queue m ss js task none = record { queued = λ e. queued_left m.tasks (task ∷ []) e; picked = λ kid e. inl (none kid e) }
+carries_queue m ss js task none = record { queued = λ session e. queued_left session m.tasks (task ∷ []) e; held = λ session kid e. inl (none session kid e) }
 
 carries_request_job : (m : Machine) (n p : ℕ) (js : List Job) (r : Result (List (List ℕ)) InitFault) → Carries m.tasks m (request_job n p r (record m { jobs = js }))
 carries_request_job m n p js (Ok kids) = carries_queue m m.sessions js (RequestDone n kids p) (all_same m)
@@ -371,15 +375,23 @@ set_seen moment ss n set kid s at e =
       | inr c ↦ inr (subst (λ (t : SessionState). is_changed_by moment t (with_set set t) ≡ true) (sym same) c)
     ]
 
+both_true : (a b : Bool) → a ≡ true → b ≡ true → (a && b) ≡ true
+both_true true b e f = f
+both_true false b e f = e
+
+seen_there : {A B C : Type 0} → A ⊎ B → C → A ⊎ (B × C)
+seen_there (inl a) c = inl a
+seen_there (inr b) c = inr (b, c)
+
 carries_grant : (m : Machine) (n p : ℕ) (set : KeySet) (js : List Job) → Carries m.tasks m (grant_set n p set (found (session_at m.sessions n)) (record m { jobs = js }))
 carries_grant m n p set js = go (nat_lt 256 (length (grant_all (found (session_at m.sessions n)).keys set.keys))) where
   go : (b : Bool) → Carries m.tasks m (if b then queue_task (Reject p Quota) (record m { jobs = js }) else queue_task (UpdateDone n (is_changed_by m.moment (found (session_at m.sessions n)) (with_set set (found (session_at m.sessions n)))) p) (with_session n (with_set set) (record m { jobs = js })))
   go true = carries_queue m m.sessions js (Reject p Quota) (all_same m)
   go false = record {
-    queued = λ e. queued_left m.tasks (UpdateDone n (is_changed_by m.moment (found (session_at m.sessions n)) (with_set set (found (session_at m.sessions n)))) p ∷ []) e;
-    picked = λ kid e. elim (session_any (is_changed_by m.moment (found (session_at m.sessions n)) (with_set set (found (session_at m.sessions n))) ≡ true) m.moment (with_set set) kid m.sessions n (λ s at u. set_seen m.moment m.sessions n set kid s at u) e) [
+    queued = λ session e. queued_left session m.tasks (UpdateDone n (is_changed_by m.moment (found (session_at m.sessions n)) (with_set set (found (session_at m.sessions n)))) p ∷ []) e;
+    held = λ session kid e. elim (session_held_after ((is_changed_by m.moment (found (session_at m.sessions n)) (with_set set (found (session_at m.sessions n))) ≡ true) × (n ≡ session)) m.moment (with_set set) kid m.sessions n session (λ s at same u. seen_there (set_seen m.moment m.sessions n set kid s at u) same) e) [
       | inl a ↦ inl a
-      | inr c ↦ inr (queued_right m.tasks (UpdateDone n (is_changed_by m.moment (found (session_at m.sessions n)) (with_set set (found (session_at m.sessions n)))) p ∷ []) (or_first (is_changed_by m.moment (found (session_at m.sessions n)) (with_set set (found (session_at m.sessions n)))) false c))
+      | inr c ↦ inr (queued_right session m.tasks (UpdateDone n (is_changed_by m.moment (found (session_at m.sessions n)) (with_set set (found (session_at m.sessions n)))) p ∷ []) (or_first (will_resume session (UpdateDone n (is_changed_by m.moment (found (session_at m.sessions n)) (with_set set (found (session_at m.sessions n)))) p)) false (both_true (is_changed_by m.moment (found (session_at m.sessions n)) (with_set set (found (session_at m.sessions n)))) (n == session) c.0 ((Decides-eqb n session).1 c.1))))
     ];
   }
 
@@ -398,11 +410,11 @@ pub carries_job : (m : Machine) → Carries m.tasks m (take_job m.jobs m)
 carries_job m = carries_take m m.jobs
 
 pub carries_tick : (m : Machine) (moment : ℕ) → m.moment ≤ moment → Carries m.tasks m (after_tick moment m).machine
-carries_tick m moment le = record { queued = λ e. queued_left m.tasks (reports_from m.moment moment 1 m.sessions) e; picked = λ kid e. inl (later_any m.moment moment m.sessions kid le e) }
+carries_tick m moment le = record { queued = λ session e. queued_left session m.tasks (reports_from m.moment moment 1 m.sessions) e; held = λ session kid e. inl (later_held_one m.moment moment (session_at m.sessions session) kid le e) }
 
 -- more tasks
 pub carries_more : (m : Machine) (more : List Task) → Carries m.tasks m (record m { tasks = m.tasks ++ more })
-carries_more m more = record { queued = λ e. queued_left m.tasks more e; picked = λ kid e. inl e }
+carries_more m more = record { queued = λ session e. queued_left session m.tasks more e; held = λ session kid e. inl e }
 
 -- a task: it queues nothing, or the event and the `Resume` of 'Update Key Statuses'
 reported_no_more : (m : Machine) (n : ℕ) → NoMore m.moment m.sessions (change_session m.sessions n (statuses_now m.moment))
@@ -411,29 +423,29 @@ reported_no_more m n = change_no_more m.moment m.sessions n (statuses_now m.mome
 closed_no_more : (moment : ℕ) (ss : List SessionState) (n : ℕ) → NoMore moment ss (change_session ss n (λ s. record s { closed = true }))
 closed_no_more moment ss n = change_no_more moment ss n (λ s. record s { closed = true }) (λ s kid e. absurd cc)
 
-two_more : (n : ℕ) (ts : List Task) → resume_queued ts ≡ true → resume_queued ((ts ++ Fire (KeyStatuses n) ∷ []) ++ Resume ∷ []) ≡ true
-two_more n ts e = queued_left (ts ++ Fire (KeyStatuses n) ∷ []) (Resume ∷ []) (queued_left ts (Fire (KeyStatuses n) ∷ []) e)
+two_more : (n session : ℕ) (ts : List Task) → resume_queued session ts ≡ true → resume_queued session ((ts ++ Fire (KeyStatuses n) ∷ []) ++ Resume ∷ []) ≡ true
+two_more n session ts e = queued_left session (ts ++ Fire (KeyStatuses n) ∷ []) (Resume ∷ []) (queued_left session ts (Fire (KeyStatuses n) ∷ []) e)
 
 carries_report : (m : Machine) (n : ℕ) (ts : List Task) (b : Bool) → Carries (Report n ∷ ts) m (if b then unmoved (record m { tasks = ts }) else update_statuses n (unmoved (record m { tasks = ts }))).machine
-carries_report m n ts true = record { queued = λ e. e; picked = λ kid e. inl e }
-carries_report m n ts false = record { queued = λ e. two_more n ts e; picked = λ kid e. inl (reported_no_more m n kid e) }
+carries_report m n ts true = record { queued = λ session e. e; held = λ session kid e. inl e }
+carries_report m n ts false = record { queued = λ session e. two_more n session ts e; held = λ session kid e. inl (reported_no_more m n session kid e) }
 
 pub carries_task : (m : Machine) (task : Task) (ts : List Task) → (task ≡ Resume → ⊥) → Carries (task ∷ ts) m (run_task task (record m { tasks = ts })).machine
-carries_task m (Reject p error) ts other = record { queued = λ e. e; picked = λ kid e. inl e }
+carries_task m (Reject p error) ts other = record { queued = λ session e. e; held = λ session kid e. inl e }
 carries_task m (RequestDone n kids p) ts other = record {
-  queued = λ e. queued_left ts (Fire (Message n (next_id m) (request_text kids)) ∷ []) e;
-  picked = λ kid e. inl (change_no_more m.moment m.sessions n (made_callable (next_id m)) (λ s k u. u) kid e);
+  queued = λ session e. queued_left session ts (Fire (Message n (next_id m) (request_text kids)) ∷ []) e;
+  held = λ session kid e. inl (change_no_more m.moment m.sessions n (made_callable (next_id m)) (λ s k u. u) session kid e);
 }
 carries_task m (UpdateDone n true p) ts other = record {
-  queued = λ e. queued_right (ts ++ Fire (KeyStatuses n) ∷ []) (Resume ∷ []) refl;
-  picked = λ kid e. inl (reported_no_more m n kid e);
+  queued = λ session e. queued_right session (ts ++ Fire (KeyStatuses n) ∷ []) (Resume ∷ []) refl;
+  held = λ session kid e. inl (reported_no_more m n session kid e);
 }
-carries_task m (UpdateDone n false p) ts other = record { queued = λ e. e; picked = λ kid e. inl e }
+carries_task m (UpdateDone n false p) ts other = record { queued = λ session e. e; held = λ session kid e. inl e }
 carries_task m (CloseDone n p) ts other = record {
-  queued = λ e. two_more n ts e;
-  picked = λ kid e. inl (reported_no_more m n kid (closed_no_more m.moment (change_session m.sessions n (statuses_now m.moment)) n kid e));
+  queued = λ session e. two_more n session ts e;
+  held = λ session kid e. inl (reported_no_more m n session kid (closed_no_more m.moment (change_session m.sessions n (statuses_now m.moment)) n session kid e));
 }
-carries_task m (RemoveDone n p) ts other = record { queued = λ e. two_more n ts e; picked = λ kid e. inl (reported_no_more m n kid e) }
+carries_task m (RemoveDone n p) ts other = record { queued = λ session e. two_more n session ts e; held = λ session kid e. inl (reported_no_more m n session kid e) }
 carries_task m (Report n) ts other = carries_report m n ts (is_closed (session_at m.sessions n))
-carries_task m (Fire event) ts other = record { queued = λ e. e; picked = λ kid e. inl e }
+carries_task m (Fire event) ts other = record { queued = λ session e. e; held = λ session kid e. inl e }
 carries_task m Resume ts other = absurd (other refl)

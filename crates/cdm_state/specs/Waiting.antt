@@ -1,5 +1,5 @@
 -- Tracks that wait for a key.
-use Rattle.std.specs.Prelude.{ℕ, ◌≡◌, Bool, true, false, ◌||◌, IsTrue, List, [], ◌∷◌, Some}
+use Rattle.std.specs.Prelude.{ℕ, ◌≡◌, ◌==◌, ◌&&◌, Bool, true, false, ◌||◌, IsTrue, List, [], ◌∷◌, Some}
 use Rattle.eme_types.specs.declared.kid.KeyBytes.{KeyBytes}
 use Rattle.eme_types.specs.declared.sample.EncSample.{EncSample}
 use Rattle.eme_types.specs.declared.sample.Protect.{Protect}
@@ -10,29 +10,29 @@ use Rattle.key_sessions.specs.Keys.{held_key}
 use Rattle.key_statuses.specs.Tracks.{TrackState, head, find_track}
 use Rattle.cdm_state.specs.History.{world, IsLegal, LiveOn}
 
--- the task looks at the waiting tracks again, or queues what does
-abbrev pub will_resume : Task → Bool
-will_resume (Reject p error) = false
-will_resume (RequestDone n kids p) = false
-will_resume (UpdateDone n changed p) = changed
-will_resume (CloseDone n p) = false
-will_resume (RemoveDone n p) = false
-will_resume (Report n) = false
-will_resume (Fire event) = false
-will_resume Resume = true
+-- the task looks at the waiting tracks again, or is of the session's update and queues what does
+abbrev pub will_resume : ℕ → Task → Bool
+will_resume session (Reject p error) = false
+will_resume session (RequestDone n kids p) = false
+will_resume session (UpdateDone n changed p) = changed && n == session
+will_resume session (CloseDone n p) = false
+will_resume session (RemoveDone n p) = false
+will_resume session (Report n) = false
+will_resume session (Fire event) = false
+will_resume session Resume = true
 
-abbrev pub resume_queued : List Task → Bool
-resume_queued [] = false
-resume_queued (task ∷ tasks) = will_resume task || resume_queued tasks
+abbrev pub resume_queued : ℕ → List Task → Bool
+resume_queued session [] = false
+resume_queued session (task ∷ tasks) = will_resume session task || resume_queued session tasks
 
--- the head of the waiting track is fed and protected and has no live claim; once a session holds its key usable, a task is queued that looks at it again
+-- the head of the waiting track is fed and protected and has no live claim; for each session that holds its key usable, a Resume is queued, or an UpdateDone of that session whose changed is true
 pub record WaitsForKey (ids : List ℕ) (h : List Entry) (id : ℕ) (t : TrackState) : Type 0 where
   pub sample : EncSample
   pub fed : head t ≡ Some sample
   pub protect : Protect
   pub protected : sample.protect ≡ Some protect
   pub free : (place : ℕ) → LiveOn ids h place id t.published → ⊥
-  pub woken : (session : ℕ) (key : KeyBytes) → held_key (world ids h).machine session protect.kid ≡ Some key → IsTrue (resume_queued (world ids h).machine.tasks)
+  pub woken : (session : ℕ) (key : KeyBytes) → held_key (world ids h).machine session protect.kid ≡ Some key → IsTrue (resume_queued session (world ids h).machine.tasks)
 
 abbrev pub WaitsOnlyForKeys : Type 0
 WaitsOnlyForKeys = (ids : List ℕ) (h : List Entry) (id : ℕ) (t : TrackState) → IsLegal ids h → find_track (world ids h).tracks id ≡ Some t → t.waiting ≡ true → WaitsForKey ids h id t
