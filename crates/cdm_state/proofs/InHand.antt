@@ -1,13 +1,11 @@
 -- The claim in hand is the one that is kept at its place.
 use Rattle.std.proofs.Common.{◌≡◌, ℕ, ◌-◌, List, Option, Some, None, refl, ap, sym, subst, ◌∙◌, arith, take, map}
-use Rattle.std.specs.Prelude.{slice_get, Contains}
+use Rattle.std.specs.Prelude.{slice_get}
 use Rattle.std.proofs.lemmas.Option.{slice_get-get_or}
 use Rattle.eme_types.specs.declared.call.Effect.{Effect}
 use Rattle.eme_types.specs.declared.entry.Entry.{Entry}
 use Rattle.eme_types.specs.declared.entry.Entry.TheVariants.{Claim, Deliver}
 use Rattle.eme_types.specs.declared.entry.Verdict.TheVariants.{Taken}
-use Rattle.eme_types.specs.declared.kid.KeyBytes.{KeyBytes}
-use Rattle.eme_types.specs.declared.sample.EncSample.{EncSample}
 use Rattle.key_statuses.specs.Tracks.{TrackState, find_track}
 use Rattle.key_sessions.specs.Machine.{Machine}
 use Rattle.key_sessions.specs.World.{World}

@@ -22,3 +22,4 @@ pub mod Resuming
 pub mod Progress
 pub mod Windows
 pub mod InHand
+pub mod StillOpen

@@ -28,7 +28,7 @@ slice_get_back [] e x n lt at = absurd (omega arith)
 slice_get_back (y ∷ h) e x zero lt at = at
 slice_get_back (y ∷ h) e x (suc n) lt at = slice_get_back h e x n (omega arith) at
 
-take_left : (h : List Entry) (e : Entry) (n : ℕ) → n ≤ length h → take n (h ++ e ∷ []) ≡ take n h
+pub take_left : (h : List Entry) (e : Entry) (n : ℕ) → n ≤ length h → take n (h ++ e ∷ []) ≡ take n h
 take_left h e n le = rw take-append-le refl
 
 pub at_within : (h : List Entry) (place : ℕ) (e : Entry) → IsAt h place e → place ≤ length h
@@ -144,7 +144,7 @@ pub is_key_same : (held : Option KeyBytes) (key : KeyBytes) → held ≡ Some ke
 is_key_same held key e = rw e ((bytes_eq-Decides key.bytes key.bytes).1 refl)
 
 -- a claim that waits still waits after an entry that does not spend it
-open_more : (h : List Entry) (e : Entry) (c : ℕ) → (Spends e c → ⊥) → Undelivered h c → Undelivered (h ++ e ∷ []) c
+pub open_more : (h : List Entry) (e : Entry) (c : ℕ) → (Spends e c → ⊥) → Undelivered h c → Undelivered (h ++ e ∷ []) c
 open_more h e c other u = record {
   worker = u.worker;
   track = u.track;

@@ -1,5 +1,5 @@
 -- A sample has at most one live claim, which is in the window of its track.
-use Rattle.std.proofs.Common.{zero, suc, ◌≡◌, ℕ, ◌+◌, ◌-◌, ◌<◌, ◌≤◌, ◌⊎◌, inl, inr, Bool, true, false, List, [], ◌∷◌, ◌++◌, length, Option, Some, None, refl, ap, sym, subst, ◌∙◌, arith}
+use Rattle.std.proofs.Common.{◌≡◌, ℕ, ◌+◌, ◌-◌, ◌<◌, ◌≤◌, ◌⊎◌, inl, inr, Bool, true, false, List, [], ◌∷◌, ◌++◌, length, Option, Some, None, refl, ap, sym, subst, ◌∙◌, arith}
 use Rattle.std.specs.Prelude.{slice_get, if◌then◌else◌}
 use Rattle.std.proofs.Math.Nat.{eq-or-lt_of_le}
 use Rattle.eme_types.specs.declared.sample.EncSample.{EncSample}
@@ -8,10 +8,10 @@ use Rattle.eme_types.specs.declared.entry.Entry.{Entry}
 use Rattle.eme_types.specs.declared.entry.Entry.TheVariants.{Call, Job, Task, Tick, Feed, Claim, Deliver, GiveUp, Publish, PassClear, WaitForKey, Settle}
 use Rattle.key_sessions.specs.Keys.{pick}
 use Rattle.key_sessions.specs.World.{World, resumes}
-use Rattle.key_statuses.specs.Tracks.{Picks, TrackState, head, has_pick, find_track, one_more, set_waiting, resumed, resumed_track}
+use Rattle.key_statuses.specs.Tracks.{TrackState, head, has_pick, find_track, one_more, set_waiting, resumed, resumed_track}
 use Rattle.cdm_state.specs.After.{after_entry}
 use Rattle.cdm_state.specs.Output.{fed_at, fed_sample}
-use Rattle.cdm_state.specs.History.{world, IsAt, IsOn, IsLegal, Allowed, Ends, LiveOn, MayPassClear}
+use Rattle.cdm_state.specs.History.{world, IsAt, IsOn, IsLegal, Allowed, Ends, LiveOn}
 use Rattle.cdm_state.specs.Law.{ClaimsEachOnce, ClaimsInTheWindow}
 use Rattle.cdm_state.proofs.Places.{either_place, slice_get_last}
 use Rattle.cdm_state.proofs.Histories.{world_more, legal_induction}

@@ -5,6 +5,8 @@ mod cdm;
 mod feed;
 mod law;
 mod room;
+#[cfg(test)]
+mod tests;
 
 pub use cdm::{CallBack, Cdm, FeedBack, SettleFault};
 pub use key_claims::{Claim, ClaimFault, Delivered, NotReady, NotWaiting, Published};
