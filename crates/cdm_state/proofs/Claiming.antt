@@ -14,7 +14,7 @@ use Rattle.key_sessions.specs.Keys.{held_key, key_of, usable_key, or_else, pick_
 use Rattle.key_sessions.specs.World.{World}
 use Rattle.cdm_state.specs.Slots.{entry_of}
 use Rattle.key_claims.specs.Claims.{give_clear, has_place}
-use Rattle.key_statuses.specs.In.{In}
+use Rattle.cdm_world.specs.In.{In}
 use Rattle.cdm_state.specs.Claims.{ClaimsKept, ClearKept}
 use Rattle.key_claims.specs.Kept.{Once}
 use Rattle.cdm_state.specs.History.{world, IsAt, IsLegal, Allowed, Ends, Spends, HoldsFor, Live, LiveAs}

@@ -10,7 +10,7 @@ use Rattle.key_claims.specs.TracksState.{FedTrack, ClaimState, track_of}
 use Rattle.key_sessions.specs.Machine.{Machine}
 use Rattle.key_sessions.specs.Keys.{pick}
 use Rattle.key_sessions.specs.Calls.{next_promise}
-use Rattle.key_statuses.specs.Tracks.{Picks, TrackState, head, find_track, is_waiting}
+use Rattle.cdm_world.specs.Tracks.{Picks, TrackState, head, find_track, is_waiting}
 use Rattle.key_claims.specs.Choice.{protect_of, protect_at, claim_pick, free_pick, NoWorkOn, NoWork, NoneIs, has_clear_head, is_clear, is_unkeyed, is_free_of}
 use Rattle.key_sessions.specs.World.{World, empty_world}
 use Rattle.cdm_state.specs.After.{after_entry}

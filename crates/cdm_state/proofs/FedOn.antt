@@ -21,7 +21,7 @@ use Rattle.key_claims.specs.declared.claim.Claim.{Claim as Held}
 use Rattle.key_claims.specs.TracksState.{FedTrack, ClaimState, track_of}
 use Rattle.key_sessions.specs.Machine.{Machine}
 use Rattle.key_sessions.specs.Keys.{pick, held_key}
-use Rattle.key_statuses.specs.Tracks.{Picks, TrackState, empty_track, head, has_pick, find_track, change_track, feed_part, feed_parts, add_samples, one_more, set_waiting, resumed}
+use Rattle.cdm_world.specs.Tracks.{Picks, TrackState, empty_track, head, has_pick, find_track, change_track, feed_part, feed_parts, add_samples, one_more, set_waiting, resumed}
 use Rattle.key_sessions.specs.World.{World, empty_world, resumes}
 use Rattle.cdm_state.specs.After.{after_entry, feed_step}
 use Rattle.cdm_state.specs.Output.{fed_at, fed_sample}

@@ -11,7 +11,7 @@ use Rattle.key_claims.specs.TracksState.{FedTrack, ClaimState, track_of}
 use Rattle.key_claims.specs.declared.choice.Work.{Work}
 use Rattle.key_sessions.specs.Machine.{Machine}
 use Rattle.key_sessions.specs.Keys.{pick}
-use Rattle.key_statuses.specs.Tracks.{TrackState, find_track}
+use Rattle.cdm_world.specs.Tracks.{TrackState, find_track}
 use Rattle.key_sessions.specs.World.{World}
 use Rattle.cdm_state.specs.Claims.{LegalKept}
 use Rattle.cdm_state.specs.Kept.{world_of}

@@ -6,7 +6,7 @@ use Rattle.eme_types.specs.declared.call.Effect.{Effect}
 use Rattle.eme_types.specs.declared.entry.Entry.{Entry}
 use Rattle.eme_types.specs.declared.entry.Entry.TheVariants.{Claim, Deliver}
 use Rattle.eme_types.specs.declared.entry.Verdict.TheVariants.{Taken}
-use Rattle.key_statuses.specs.Tracks.{TrackState, find_track}
+use Rattle.cdm_world.specs.Tracks.{TrackState, find_track}
 use Rattle.key_sessions.specs.Machine.{Machine}
 use Rattle.key_sessions.specs.World.{World}
 use Rattle.key_sessions.specs.Keys.{held_key}

@@ -17,7 +17,7 @@ use Rattle.key_sessions.specs.Keys.{held_key}
 use Rattle.key_sessions.specs.World.{World}
 use Rattle.cdm_state.specs.Slots.{entry_of, is_key, holds_still}
 use Rattle.key_claims.specs.Claims.{is_other}
-use Rattle.key_statuses.specs.In.{In}
+use Rattle.cdm_world.specs.In.{In}
 use Rattle.cdm_state.specs.Claims.{ClaimsKept, ClearKept}
 use Rattle.key_claims.specs.Kept.{Once}
 use Rattle.cdm_state.specs.History.{world, IsAt, Ends, Spends, HoldsFor, Live, LiveAs, Undelivered}

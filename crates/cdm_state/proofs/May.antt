@@ -16,12 +16,12 @@ use Rattle.key_claims.specs.declared.choice.Work.{Work}
 use Rattle.cdm_state.proofs.Copied.{Copied, IsCopied}
 use Rattle.key_sessions.specs.Machine.{Machine}
 use Rattle.key_sessions.specs.Keys.{pick}
-use Rattle.key_statuses.specs.Tracks.{Picks, TrackState, head, find_track, Unpicked, HeadAtRest, TrackAtRest}
+use Rattle.cdm_world.specs.Tracks.{Picks, TrackState, head, find_track, Unpicked, HeadAtRest, TrackAtRest}
 use Rattle.key_claims.specs.Choice.{protect_of, protect_at, free_pick, IsWork, IsFirst, IsReady, has_clear_head, is_clear, is_unkeyed, is_free_of, rests, rests_at, rests_protected, AllRest, IsUnrested}
 use Rattle.key_sessions.specs.World.{World}
 use Rattle.cdm_state.specs.Slots.{entry_of}
 use Rattle.key_claims.specs.Claims.{claimed_in}
-use Rattle.key_statuses.specs.In.{In}
+use Rattle.cdm_world.specs.In.{In}
 use Rattle.cdm_state.specs.Claims.{ClaimsKept, ClearKept, LegalKept}
 use Rattle.cdm_state.specs.Kept.{world_of}
 use Rattle.cdm_state.specs.Contract.{FirstBusy}

@@ -17,7 +17,7 @@ use Rattle.key_sessions.specs.Keys.{pick, held_key}
 use Rattle.key_sessions.specs.Calls.{after_call}
 use Rattle.key_sessions.specs.Jobs.{after_job}
 use Rattle.key_sessions.specs.Tasks.{after_task, after_tick, take_task}
-use Rattle.key_statuses.specs.Tracks.{TrackState, change_track, empty_track, find_track, one_more, set_waiting, feed_parts, resumed}
+use Rattle.cdm_world.specs.Tracks.{TrackState, change_track, empty_track, find_track, one_more, set_waiting, feed_parts, resumed}
 use Rattle.key_sessions.specs.World.{World, resumes}
 use Rattle.cdm_state.specs.After.{fire_encrypted}
 use Rattle.cdm_state.specs.Slots.{holds_still}

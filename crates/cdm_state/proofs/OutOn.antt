@@ -15,11 +15,11 @@ use Rattle.key_claims.specs.declared.claim.Claim.{Claim as Held}
 use Rattle.key_claims.specs.TracksState.{FedTrack, ClaimState, track_of}
 use Rattle.key_sessions.specs.Machine.{Machine}
 use Rattle.key_sessions.specs.Keys.{held_key}
-use Rattle.key_statuses.specs.Tracks.{TrackState, empty_track, head, find_track}
+use Rattle.cdm_world.specs.Tracks.{TrackState, empty_track, head, find_track}
 use Rattle.key_sessions.specs.World.{World}
 use Rattle.cdm_state.specs.Slots.{entry_of}
 use Rattle.key_claims.specs.Claims.{is_other, clear_at, give_clear}
-use Rattle.key_statuses.specs.In.{In}
+use Rattle.cdm_world.specs.In.{In}
 use Rattle.cdm_state.specs.Contract.{Stands}
 use Rattle.cdm_state.specs.Claims.{LegalKept}
 use Rattle.cdm_state.specs.Kept.{world_of}

@@ -4,12 +4,13 @@ use Rattle.std.specs.Prelude.{slice_get, not, ◌==◌, filter}
 use Rattle.std.specs.List.{sum_by}
 use Rattle.std.proofs.lemmas.List.Sums.{sum_by-append}
 use Rattle.std.proofs.lemmas.Bool.Decides.{eqb_tells}
-use Rattle.eme_types.specs.Fed.{max_samples, part_samples}
+use Rattle.eme_types.specs.Fed.{part_samples}
+use Rattle.eme_types.specs.declared.limits.TheConstants.{MAX_SAMPLES}
 use Rattle.cdm_state.specs.Feeds.{parts_in}
 use Rattle.eme_types.specs.declared.entry.Entry.{Entry}
 use Rattle.eme_types.specs.declared.entry.Entry.TheVariants.{Claim}
 use Rattle.key_claims.specs.TracksState.{FedTrack}
-use Rattle.key_statuses.specs.In.{In}
+use Rattle.cdm_world.specs.In.{In}
 use Rattle.key_claims.specs.TrackValue.{all_left, all_fed}
 use Rattle.cdm_state.specs.Kept.{all_awake, RoomKept, KeptAs}
 use Rattle.cdm_state.specs.History.{Spends, Undelivered, fed_samples, fed_samples_of, MayFeedNext, samples_in}
@@ -94,7 +95,7 @@ kept_more h g e ts us places is plain none le kept = rw is (record {
   waits = λ c u. kept.waits c (waited h e c plain u).0;
 })
 
-pub kept_fed : (h g : List Entry) (e : Entry) (ts us : List FedTrack) (places : List ℕ) (n : ℕ) → g ≡ h ++ e ∷ [] → IsPlain e → fed_samples_of e ≡ n → fed_samples h + n ≤ max_samples → all_fed us ≤ all_fed ts + n → KeptAs h ts places → KeptAs g us places
+pub kept_fed : (h g : List Entry) (e : Entry) (ts us : List FedTrack) (places : List ℕ) (n : ℕ) → g ≡ h ++ e ∷ [] → IsPlain e → fed_samples_of e ≡ n → fed_samples h + n ≤ MAX_SAMPLES → all_fed us ≤ all_fed ts + n → KeptAs h ts places → KeptAs g us places
 kept_fed h g e ts us places n is plain some limit le kept = rw is (record {
   limit = omega (arith, fed_more h e, some, limit);
   fed = omega (arith, fed_more h e, some, kept.fed, le);
@@ -158,7 +159,7 @@ room_fed ts us w x n m k a b g h e hn em le = record {
   events = omega (arith, awake_within ts, g.awake, le);
 }
 
-pub fed_limit : (ids : List ℕ) (h : List Entry) (f : Option Fragment) → fed_samples h ≤ max_samples → MayFeedNext ids h f → fed_samples h + samples_in f ≤ max_samples
+pub fed_limit : (ids : List ℕ) (h : List Entry) (f : Option Fragment) → fed_samples h ≤ MAX_SAMPLES → MayFeedNext ids h f → fed_samples h + samples_in f ≤ MAX_SAMPLES
 fed_limit ids h None few may = omega (arith, few)
 fed_limit ids h (Some f) few may = may.samples
 

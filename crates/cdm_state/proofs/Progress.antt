@@ -13,7 +13,7 @@ use Rattle.eme_types.specs.declared.entry.Verdict.TheVariants.{Taken, Stale}
 use Rattle.key_claims.specs.TracksState.{ClaimState}
 use Rattle.key_sessions.specs.Machine.{Machine}
 use Rattle.key_sessions.specs.Keys.{held_key, pick}
-use Rattle.key_statuses.specs.Tracks.{TrackState, head, find_track, Unpicked, HeadAtRest}
+use Rattle.cdm_world.specs.Tracks.{TrackState, head, find_track, Unpicked, HeadAtRest}
 use Rattle.key_sessions.specs.World.{World}
 use Rattle.cdm_state.specs.After.{after_entry}
 use Rattle.cdm_state.specs.Output.{fed_at, fed_sample}

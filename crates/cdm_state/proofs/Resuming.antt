@@ -14,7 +14,7 @@ use Rattle.task_queue.specs.declared.work.Task.TheVariants.{Reject, RequestDone,
 use Rattle.key_sessions.specs.Machine.{Machine}
 use Rattle.key_sessions.specs.Keys.{pick}
 use Rattle.key_sessions.specs.Tasks.{take_task}
-use Rattle.key_statuses.specs.Tracks.{Picks, TrackState, empty_track, head, has_pick, protect_picked, find_track, change_track, feed_part, feed_parts, add_samples, one_more, set_waiting, resumed, resumed_track}
+use Rattle.cdm_world.specs.Tracks.{Picks, TrackState, empty_track, head, has_pick, protect_picked, find_track, change_track, feed_part, feed_parts, add_samples, one_more, set_waiting, resumed, resumed_track}
 use Rattle.key_sessions.specs.World.{World, resumes}
 use Rattle.cdm_state.specs.After.{after_entry, feed_step, fire_encrypted}
 use Rattle.cdm_state.specs.History.{world, IsLegal, Allowed, IsOn, LiveOn, MayPublish, MayPassClear, MayWait}

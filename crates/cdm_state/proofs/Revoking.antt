@@ -4,8 +4,8 @@ use Rattle.std.specs.Prelude.{if◌then◌else◌, filter}
 use Rattle.std.proofs.lemmas.Bool.Decides.{eqb_tells}
 use Rattle.std.proofs.lemmas.Slice.Eq.{bytes_eq-Decides}
 use Rattle.eme_types.specs.declared.kid.KeyBytes.{KeyBytes}
-use Rattle.key_statuses.specs.In.{In}
-use Rattle.key_statuses.specs.Lost.{AreLost}
+use Rattle.cdm_world.specs.In.{In}
+use Rattle.cdm_world.specs.Lost.{AreLost}
 use Rattle.key_claims.specs.Claims.{is_under, is_other, revoked, revoke_all}
 use Rattle.key_claims.specs.Contract.{AreBelow}
 use Rattle.eme_types.specs.declared.call.Effect.{Effect}

@@ -4,7 +4,7 @@ use Rattle.std.specs.Prelude.{if◌then◌else◌}
 use Rattle.std.proofs.lemmas.List.{get_or-map, length-map}
 use Rattle.eme_types.specs.declared.sample.EncSample.{EncSample}
 use Rattle.eme_types.specs.declared.media.TrackPart.{TrackPart}
-use Rattle.key_statuses.specs.Tracks.{Picks}
+use Rattle.cdm_world.specs.Tracks.{Picks}
 use Rattle.key_claims.specs.TracksState.{FedTrack}
 use Rattle.key_claims.specs.Changes.{changed_at, more_out, with_waiting, more_fed, change_fed, feed_one, feed_all, resumed_one}
 use Rattle.cdm_state.specs.Shown.{SameShown, SameOut, OneOut}

@@ -9,7 +9,7 @@ use Rattle.eme_types.specs.declared.entry.Entry.{Entry}
 use Rattle.eme_types.specs.declared.entry.Entry.TheVariants.{Call, Job, Task, Tick, Feed, Claim, Deliver, GiveUp, Publish, PassClear, WaitForKey, Settle}
 use Rattle.eme_types.specs.Fed.{is_among, are_distinct}
 use Rattle.key_claims.specs.TracksState.{FedTrack, track_of}
-use Rattle.key_statuses.specs.Tracks.{Picks, TrackState, empty_track, head, has_pick, find_track, change_track, feed_part, feed_parts, add_samples, one_more, set_waiting, resumed}
+use Rattle.cdm_world.specs.Tracks.{Picks, TrackState, empty_track, head, has_pick, find_track, change_track, feed_part, feed_parts, add_samples, one_more, set_waiting, resumed}
 use Rattle.key_sessions.specs.Keys.{pick}
 use Rattle.key_sessions.specs.World.{World, empty_world, resumes}
 use Rattle.cdm_state.specs.After.{after_entry, feed_step}

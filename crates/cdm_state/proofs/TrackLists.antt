@@ -7,7 +7,7 @@ use Rattle.std.proofs.lemmas.Bool.Decides.{eqb_tells}
 use Rattle.eme_types.specs.Fed.{part_samples}
 use Rattle.eme_types.specs.declared.sample.EncSample.{EncSample}
 use Rattle.eme_types.specs.declared.media.TrackPart.{TrackPart}
-use Rattle.key_statuses.specs.Tracks.{Picks, TrackState, empty_track, find_track, change_track, one_more, add_samples, feed_parts, resumed, has_pick, head}
+use Rattle.cdm_world.specs.Tracks.{Picks, TrackState, empty_track, find_track, change_track, one_more, add_samples, feed_parts, resumed, has_pick, head}
 use Rattle.key_claims.specs.TracksState.{ClaimState, FedTrack, track_of}
 use Rattle.key_claims.specs.TrackValue.{left_of, fed_of, all_left, all_fed}
 use Rattle.key_claims.specs.Changes.{empty_fed, changed_at, more_out, more_fed, with_waiting, change_fed, feed_one, feed_all, resumed_one, find_fed}

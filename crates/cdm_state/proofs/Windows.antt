@@ -8,7 +8,7 @@ use Rattle.eme_types.specs.declared.entry.Entry.{Entry}
 use Rattle.eme_types.specs.declared.entry.Entry.TheVariants.{Call, Job, Task, Tick, Feed, Claim, Deliver, GiveUp, Publish, PassClear, WaitForKey, Settle}
 use Rattle.key_sessions.specs.Keys.{pick}
 use Rattle.key_sessions.specs.World.{World, resumes}
-use Rattle.key_statuses.specs.Tracks.{TrackState, head, has_pick, find_track, one_more, set_waiting, resumed, resumed_track}
+use Rattle.cdm_world.specs.Tracks.{TrackState, head, has_pick, find_track, one_more, set_waiting, resumed, resumed_track}
 use Rattle.cdm_state.specs.After.{after_entry}
 use Rattle.cdm_state.specs.Output.{fed_at, fed_sample}
 use Rattle.cdm_state.specs.History.{world, IsAt, IsOn, IsLegal, Allowed, Ends, LiveOn}

@@ -12,7 +12,7 @@ use Rattle.key_sessions.specs.Steps.{queue_task}
 use Rattle.key_sessions.specs.Calls.{after_call}
 use Rattle.key_sessions.specs.Jobs.{after_job}
 use Rattle.key_sessions.specs.Tasks.{after_tick}
-use Rattle.key_statuses.specs.Tracks.{change_track, one_more, set_waiting, feed_parts}
+use Rattle.cdm_world.specs.Tracks.{change_track, one_more, set_waiting, feed_parts}
 use Rattle.key_sessions.specs.World.{World, Stepped, acted, unseen, task_step}
 
 abbrev pub fire_encrypted : InitData → Queued

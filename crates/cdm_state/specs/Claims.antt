@@ -10,7 +10,7 @@ use Rattle.key_claims.specs.TracksState.{ClaimState}
 use Rattle.key_claims.specs.Kept.{Once}
 use Rattle.key_sessions.specs.World.{World}
 use Rattle.cdm_state.specs.Slots.{entry_of}
-use Rattle.key_statuses.specs.In.{In}
+use Rattle.cdm_world.specs.In.{In}
 use Rattle.cdm_state.specs.History.{world, IsLegal, Live, LiveAs, Undelivered}
 use Rattle.cdm_state.specs.Settlements.{effects_in}
 

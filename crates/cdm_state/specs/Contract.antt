@@ -9,7 +9,7 @@ use Rattle.key_claims.specs.declared.claim.Claim.{Claim as Held}
 use Rattle.cdm_state.specs.declared.cdm.SettleFault.{SettleFault}
 use Rattle.cdm_state.specs.declared.cdm.SettleFault.TheVariants.{Job, Task, Track, OutOfMemory}
 use Rattle.key_sessions.specs.Keys.{held_key, pick}
-use Rattle.key_statuses.specs.Tracks.{TrackState, TrackAtRest}
+use Rattle.cdm_world.specs.Tracks.{TrackState, TrackAtRest}
 use Rattle.key_sessions.specs.World.{World}
 use Rattle.cdm_state.specs.Output.{fed_sample}
 use Rattle.cdm_state.specs.History.{world, IsAt, Undelivered, Live, AtRest, MayClaim}

@@ -8,9 +8,10 @@ use Rattle.eme_types.specs.declared.media.Fragment.{Fragment}
 use Rattle.eme_types.specs.declared.entry.Entry.{Entry}
 use Rattle.eme_types.specs.declared.entry.Entry.TheVariants.{Call, Job, Task, Tick, Feed, Claim, Deliver, GiveUp, Publish, PassClear, WaitForKey, Settle}
 use Rattle.eme_types.specs.declared.entry.Verdict.TheVariants.{Taken}
-use Rattle.eme_types.specs.Fed.{are_known, are_well_formed, fragment_samples, fragment_bytes, max_samples, max_bytes}
+use Rattle.eme_types.specs.Fed.{are_known, are_well_formed, fragment_samples, fragment_bytes}
+use Rattle.eme_types.specs.declared.limits.TheConstants.{MAX_SAMPLES, MAX_SAMPLE_BYTES}
 use Rattle.key_sessions.specs.Keys.{held_key, pick}
-use Rattle.key_statuses.specs.Tracks.{TrackState, TrackAtRest, find_track, head}
+use Rattle.cdm_world.specs.Tracks.{TrackState, TrackAtRest, find_track, head}
 use Rattle.key_sessions.specs.World.{World, empty_world}
 use Rattle.cdm_state.specs.After.{after_entry}
 
@@ -207,8 +208,8 @@ fed_bytes h = sum_by fed_bytes_of h
 pub record MayFeed (ids : List ℕ) (h : List Entry) (f : Fragment) : Type 0 where
   pub known : IsTrue (are_known ids f)
   pub formed : IsTrue (are_well_formed f)
-  pub samples : fed_samples h + fragment_samples f ≤ max_samples
-  pub bytes : fed_bytes h + fragment_bytes f ≤ max_bytes
+  pub samples : fed_samples h + fragment_samples f ≤ MAX_SAMPLES
+  pub bytes : fed_bytes h + fragment_bytes f ≤ MAX_SAMPLE_BYTES
 
 abbrev pub MayFeedNext : List ℕ → List Entry → Option Fragment → Type 0
 MayFeedNext ids h None = Unit {0}

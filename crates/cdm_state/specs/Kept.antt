@@ -1,9 +1,10 @@
 -- What the core keeps.
 use Rattle.std.specs.Prelude.{ℕ, ◌+◌, ◌≤◌, if◌then◌else◌, List, length, map, IsTrue}
 use Rattle.std.specs.List.{sum_by}
-use Rattle.eme_types.specs.Fed.{max_samples, are_distinct}
+use Rattle.eme_types.specs.Fed.{are_distinct}
+use Rattle.eme_types.specs.declared.limits.TheConstants.{MAX_SAMPLES}
 use Rattle.eme_types.specs.declared.entry.Entry.{Entry}
-use Rattle.key_statuses.specs.In.{In}
+use Rattle.cdm_world.specs.In.{In}
 use Rattle.key_sessions.specs.Machine.{Machine}
 use Rattle.key_sessions.specs.World.{World}
 use Rattle.key_claims.specs.TracksState.{FedTrack, track_of}
@@ -31,7 +32,7 @@ pub record RoomKept (n m k : ℕ) (ts : List FedTrack) (waiting : ℕ) : Type 0 
   pub events : all_awake ts ≤ k
 
 pub record KeptAs (h : List Entry) (ts : List FedTrack) (places : List ℕ) : Type 0 where
-  pub limit : fed_samples h ≤ max_samples
+  pub limit : fed_samples h ≤ MAX_SAMPLES
   pub fed : all_fed ts ≤ fed_samples h
   pub waits : (c : ℕ) → Undelivered h c → In places c
 

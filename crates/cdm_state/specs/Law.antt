@@ -2,7 +2,7 @@
 use Rattle.std.specs.Prelude.{ℕ, ◌≡◌, ◌≤◌, ◌<◌, ◌+◌, List, length, Some}
 use Rattle.eme_types.specs.declared.entry.Entry.{Entry}
 use Rattle.key_sessions.specs.Owed.{IsOwed}
-use Rattle.key_statuses.specs.Tracks.{TrackState, find_track}
+use Rattle.cdm_world.specs.Tracks.{TrackState, find_track}
 use Rattle.cdm_state.specs.History.{world, IsLegal, AtRest, LiveOn}
 use Rattle.cdm_state.specs.Moment.{last_moment}
 use Rattle.cdm_state.specs.Settlements.{settlements, calls_in}

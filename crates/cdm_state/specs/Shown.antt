@@ -3,7 +3,7 @@ use Rattle.std.specs.Prelude.{ℕ, ◌≡◌, ◌<◌, ◌++◌, List, [], ◌�
 use Rattle.eme_types.specs.declared.sample.EncSample.{EncSample}
 use Rattle.sample_crypt.specs.Decryption.{decryption}
 use Rattle.eme_types.specs.declared.entry.Entry.{Entry}
-use Rattle.key_statuses.specs.In.{In}
+use Rattle.cdm_world.specs.In.{In}
 use Rattle.key_claims.specs.TracksState.{ClaimState, FedTrack}
 use Rattle.cdm_state.specs.History.{world}
 use Rattle.cdm_state.specs.Output.{fed_sample, out}

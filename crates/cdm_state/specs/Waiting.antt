@@ -7,7 +7,7 @@ use Rattle.eme_types.specs.declared.entry.Entry.{Entry}
 use Rattle.task_queue.specs.declared.work.Task.{Task}
 use Rattle.task_queue.specs.declared.work.Task.TheVariants.{Reject, RequestDone, UpdateDone, CloseDone, RemoveDone, Report, Fire, Resume}
 use Rattle.key_sessions.specs.Keys.{held_key}
-use Rattle.key_statuses.specs.Tracks.{TrackState, head, find_track}
+use Rattle.cdm_world.specs.Tracks.{TrackState, head, find_track}
 use Rattle.cdm_state.specs.History.{world, IsLegal, LiveOn}
 
 -- the task looks at the waiting tracks again, or is of the session's update and queues what does

@@ -1,10 +1,11 @@
 // The history, and the state after it.
 ghost use Rattle.std.specs.Prelude.{◌≡◌, ◌<◌, ◌≤◌, ◌+◌, ◌-◌, [], OnOk, OnErr, IfErr, IsErrOf, IfOk, ◌↔◌, IsTrue, MatchOption, Some, None, ℕ, List, length};
 ghost use Rattle.std.specs.Prelude.{slice_get, map, ◌⊎◌, if◌then◌else◌};
-ghost use Rattle.eme_types.specs.Fed.{are_distinct, max_tracks};
+ghost use Rattle.eme_types.specs.Fed.{are_distinct};
+ghost use Rattle.eme_types.specs.declared.limits.TheConstants.{MAX_TRACKS};
 ghost use Rattle.eme_types.specs.declared.entry.Entry.TheVariants.{Call as CallEntry, Job as JobEntry, Task as TaskEntry, Tick, Feed, GiveUp, Publish, PassClear, WaitForKey, Settle};
 ghost use Rattle.sample_crypt.specs.Decryption.{decryption};
-ghost use Rattle.key_statuses.specs.Tracks.{find_track, is_waiting};
+ghost use Rattle.cdm_world.specs.Tracks.{find_track, is_waiting};
 ghost use Rattle.cdm_state.specs.History.{world, IsLegal, AtRest, MayFeedNext, MayClaim, MayPublish, MayPassClear, MayWait};
 ghost use Rattle.cdm_state.specs.Settlements.{effects_in, calls_in};
 ghost use Rattle.cdm_state.specs.Output.{out};
@@ -82,7 +83,7 @@ impl Model for Cdm {
 impl Cdm {
     /// The empty history on these tracks.
     pub fn new(alloc: Global, tracks: &TrackIds) -> Result<Cdm, AllocError>
-        requires few { length tracks.now ≤ max_tracks }
+        requires few { length tracks.now ≤ MAX_TRACKS }
         requires distinct { IsTrue (are_distinct tracks.now) }
         ensures { IfOk result (λ c. c ≡ record { tracks = tracks.now; history = [] }) }
     {

@@ -1,7 +1,8 @@
 // What a feed needs before anything changes, and the events that it queues.
 ghost use Rattle.std.specs.Prelude.{◌≡◌, ◌≤◌, ◌<◌, ◌+◌, ◌-◌, ◌++◌, map, length, IfOk, OnOk, OnErr, IfSome};
 ghost use Rattle.std.specs.List.{sum_by};
-ghost use Rattle.eme_types.specs.Fed.{max_samples, part_samples};
+ghost use Rattle.eme_types.specs.Fed.{part_samples};
+ghost use Rattle.eme_types.specs.declared.limits.TheConstants.{MAX_SAMPLES};
 ghost use Rattle.eme_types.specs.declared.call.Event.TheVariants.{Encrypted};
 ghost use Rattle.key_claims.specs.TrackValue.{all_left, all_fed};
 ghost use Rattle.key_claims.specs.Changes.{feed_all};
@@ -79,7 +80,7 @@ fn take_fragment(
     waits: usize,
     fragment: &Fragment,
 ) -> Result<Vec<Event>, AllocError>
-    requires { all_fed tracks.old.tracks + sum_by part_samples fragment.now.parts ≤ max_samples }
+    requires { all_fed tracks.old.tracks + sum_by part_samples fragment.now.parts ≤ MAX_SAMPLES }
     ensures entries { history.new.0 ≡ history.old.0 }
     ensures effects { effects.new.0 ≡ effects.old.0 }
     ensures sessions { sessions.new ≡ record sessions.old { room = sessions.new.room } }
@@ -121,7 +122,7 @@ pub fn take_in(
     waits: usize,
     fragment: &Option<Fragment>,
 ) -> Result<Vec<Event>, AllocError>
-    requires { all_fed tracks.old.tracks + sum_by part_samples (parts_in fragment.now) ≤ max_samples }
+    requires { all_fed tracks.old.tracks + sum_by part_samples (parts_in fragment.now) ≤ MAX_SAMPLES }
     ensures entries { history.new.0 ≡ history.old.0 }
     ensures effects { effects.new.0 ≡ effects.old.0 }
     ensures sessions { sessions.new ≡ record sessions.old { room = sessions.new.room } }

@@ -5,6 +5,7 @@ use Rattle.eme_types.specs.declared.sample.EncSample.{EncSample}
 use Rattle.eme_types.specs.declared.media.TrackPart.{TrackPart}
 use Rattle.eme_types.specs.declared.media.Fragment.{Fragment}
 use Rattle.eme_types.specs.declared.media.Media.{Media}
+use Rattle.eme_types.specs.declared.limits.TheConstants.{MAX_TRACKS, MAX_SAMPLES, MAX_SAMPLE_BYTES}
 use Rattle.eme_types.specs.WellFormed.{is_well_formed}
 
 -- the number stands in the list
@@ -49,21 +50,12 @@ has_samples p = not (length p.samples == 0)
 abbrev pub is_joined : Fragment → Bool
 is_joined f = are_distinct (map part_track f.parts) && list_all has_samples f.parts
 
-abbrev pub max_tracks : ℕ
-max_tracks = 8
-
-abbrev pub max_samples : ℕ
-max_samples = 1048576
-
-abbrev pub max_bytes : ℕ
-max_bytes = 67108864
-
 -- at most 8 distinct tracks, parts of them, well-formed samples, and totals inside the limits
 pub record IsFed (m : Media) : Type 0 where
-  pub few : length m.tracks ≤ max_tracks
+  pub few : length m.tracks ≤ MAX_TRACKS
   pub distinct : IsTrue (are_distinct m.tracks)
   pub known : IsTrue (list_all (are_known m.tracks) m.fragments)
   pub joined : IsTrue (list_all is_joined m.fragments)
   pub formed : IsTrue (list_all are_well_formed m.fragments)
-  pub samples : sum_by fragment_samples m.fragments ≤ max_samples
-  pub bytes : sum_by fragment_bytes m.fragments ≤ max_bytes
+  pub samples : sum_by fragment_samples m.fragments ≤ MAX_SAMPLES
+  pub bytes : sum_by fragment_bytes m.fragments ≤ MAX_SAMPLE_BYTES

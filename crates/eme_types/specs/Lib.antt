@@ -1,3 +1,4 @@
+pub mod FirstFault
 pub mod Fed
 pub mod KeyId
 pub mod WellFormed

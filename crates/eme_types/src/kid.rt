@@ -1,10 +1,12 @@
 // Key ids, keys and their statuses.
 ghost use Rattle.std.specs.Prelude.{◌≡◌, ◌<◌, ◌⊎◌, ◌↔◌, Some, refl, bytes_eq, length, IfOk, IsErrOf};
 ghost use Rattle.std.specs.Ordering.{nat_cmp};
+ghost use Rattle.eme_types.specs.declared.limits.TheConstants.{MAX_KID_BYTES};
 ghost use Rattle.std.specs.Cmp.Lexicographic.{slice_cmp, nat_list_eq_equiv, nat_list_cmp_total, texts_ties, texts_po};
 ghost use Rattle.std.specs.Cmp.{partial_equiv_from_equiv};
 
 use crate::items::{Bytes, Copies, Items};
+use crate::limits::MAX_KID_BYTES;
 use std::alloc::{AllocError, Global};
 use std::cmp::Ordering;
 use std::hash::{Hash, Hasher};
@@ -63,9 +65,9 @@ impl KeyId {
     /// A key id of these bytes.
     pub fn new(alloc: Global, bytes: &[u8]) -> Result<KeyId, KeyIdFault>
         ensures ok { IfOk result (λ k. k ≡ bytes.now) }
-        ensures length { IsErrOf result KeyIdFault.Length ↔ ((length bytes.now < 1) ⊎ (512 < length bytes.now)) }
+        ensures length { IsErrOf result KeyIdFault.Length ↔ ((length bytes.now < 1) ⊎ (MAX_KID_BYTES < length bytes.now)) }
     {
-        if bytes.is_empty() || bytes.len() > 512 {
+        if bytes.is_empty() || bytes.len() > MAX_KID_BYTES {
             return Err(KeyIdFault::Length);
         }
         match Bytes::from_slice(alloc, bytes) {

@@ -6,6 +6,7 @@ mod call;
 mod entry;
 mod items;
 mod kid;
+mod limits;
 mod media;
 mod sample;
 #[cfg(test)]
@@ -16,6 +17,11 @@ pub use call::{AppCall, DomError, Effect, Effects, Event, Settled};
 pub use entry::{Entry, Verdict};
 pub use items::{Bytes, Copies, Items};
 pub use kid::{KeyBytes, KeyId, KeyIdFault, KeyPairs, Kids, Status, StatusList};
+pub use limits::{
+    CLAIM_WINDOW, MAX_INIT_DATA_BYTES, MAX_KEY_SET_BYTES, MAX_KID_BYTES, MAX_LANES,
+    MAX_MEDIA_BYTES, MAX_MOMENT, MAX_SAMPLE_BYTES, MAX_SAMPLES, MAX_SCRIPT_BYTES, MAX_SCRIPT_LINES,
+    MAX_SESSION_KIDS, MAX_SESSIONS, MAX_TRACKS, MAX_WORKERS,
+};
 pub use media::{
     Fragment, Fragments, InitData, InitKind, Inits, Media, Parts, TrackIds, TrackPart,
 };

@@ -10,8 +10,8 @@ use Rattle.eme_types.specs.declared.sample.EncSample.{EncSample}
 use Rattle.eme_types.specs.declared.sample.Protect.{Protect}
 use Rattle.eme_types.specs.declared.media.TrackPart.{TrackPart}
 use Rattle.sample_crypt.specs.Decryption.{decryption}
-use Rattle.key_statuses.specs.In.{In}
-use Rattle.key_statuses.specs.Tracks.{Picks, head}
+use Rattle.cdm_world.specs.In.{In}
+use Rattle.cdm_world.specs.Tracks.{Picks, head}
 use Rattle.key_claims.specs.declared.claim.Claim.{Claim}
 use Rattle.key_claims.specs.declared.claim.ClaimFault.{ClaimFault}
 use Rattle.key_claims.specs.declared.choice.Work.{Work}

@@ -2,8 +2,8 @@
 use Rattle.std.proofs.Common.{◌≡◌, ◌≢◌, ℕ, ◌+◌, ◌<◌, Bool, true, false, List, [], ◌∷◌, ◌++◌, get_or, Some, inl, inr, refl, ap, sym, subst, ◌∙◌, arith, Result, Ok, Err}
 use Rattle.std.specs.Prelude.{if◌then◌else◌, IfOk, OnErr}
 use Rattle.std.specs.List.{filter}
-use Rattle.key_statuses.specs.In.{In}
-use Rattle.key_statuses.specs.Tracks.{Picks}
+use Rattle.cdm_world.specs.In.{In}
+use Rattle.cdm_world.specs.Tracks.{Picks}
 use Rattle.key_claims.specs.declared.claim.Claim.{Claim}
 use Rattle.key_claims.specs.declared.claim.ClaimFault.{ClaimFault}
 use Rattle.key_claims.specs.declared.claim.Delivered.{Delivered}

@@ -1,13 +1,13 @@
 -- Claims that can be published.
 use Rattle.std.proofs.Common.{◌≡◌, ◌<◌, ◌∙◌, ℕ, Bool, true, false, List, [], ◌∷◌, length, Option, Some, None, refl, ap, sym, inl, inr, arith, eqb}
 use Rattle.std.specs.Prelude.{if◌then◌else◌, ◌&&◌, is_some, is_none, nat_lt, MatchOption}
-use Rattle.key_statuses.specs.In.{In}
+use Rattle.cdm_world.specs.In.{In}
 use Rattle.eme_types.specs.declared.sample.EncSample.{EncSample}
 use Rattle.eme_types.specs.declared.sample.Protect.{Protect}
 use Rattle.std.proofs.lemmas.Bool.{lt-ltb}
 use Rattle.std.proofs.lemmas.Bool.Decides.{eqb_tells}
 use Rattle.std.proofs.lemmas.Option.{slice_get_within}
-use Rattle.key_statuses.specs.Tracks.{head}
+use Rattle.cdm_world.specs.Tracks.{head}
 use Rattle.key_claims.specs.TracksState.{ClaimState, FedTrack, track_of}
 use Rattle.key_claims.specs.Claims.{is_ready, ready_claim, clear_at}
 use Rattle.key_claims.specs.Choice.{ready_on, is_clear, has_clear_head}

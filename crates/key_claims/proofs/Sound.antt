@@ -6,7 +6,7 @@ use Rattle.std.proofs.lemmas.List.Sums.{sum_by-cons}
 use Rattle.eme_types.specs.declared.sample.EncSample.{EncSample}
 use Rattle.eme_types.specs.declared.media.TrackPart.{TrackPart}
 use Rattle.eme_types.specs.Fed.{part_samples}
-use Rattle.key_statuses.specs.In.{In}
+use Rattle.cdm_world.specs.In.{In}
 use Rattle.key_claims.specs.TracksState.{ClaimState, FedTrack}
 use Rattle.key_claims.specs.Claims.{give_clear, DeliversTo}
 use Rattle.key_claims.specs.Contract.{AreBelow, HoldsWork, claimed}

@@ -3,7 +3,7 @@ use Rattle.std.specs.Prelude.{ℕ, zero, suc, ◌==◌, ◌≡◌, ◌<◌, Bool
 use Rattle.std.specs.List.{fold}
 use Rattle.eme_types.specs.declared.sample.EncSample.{EncSample}
 use Rattle.eme_types.specs.declared.media.TrackPart.{TrackPart}
-use Rattle.key_statuses.specs.Tracks.{Picks, head, has_pick}
+use Rattle.cdm_world.specs.Tracks.{Picks, head, has_pick}
 use Rattle.key_claims.specs.TracksState.{FedTrack, track_of}
 
 abbrev pub empty_fed : ℕ → FedTrack

@@ -6,7 +6,7 @@ use Rattle.eme_types.specs.declared.sample.Protect.{Protect}
 use Rattle.key_claims.specs.Claims.{claimed_in, ready_claim}
 use Rattle.key_claims.specs.TracksState.{ClaimState, FedTrack, track_of}
 use Rattle.key_claims.specs.declared.choice.Work.{Work}
-use Rattle.key_statuses.specs.Tracks.{Picks, head}
+use Rattle.cdm_world.specs.Tracks.{Picks, head}
 
 abbrev pub protect_of : Option EncSample → Option Protect
 protect_of None = None

@@ -3,7 +3,7 @@ use Rattle.std.specs.Prelude.{ℕ, ◌≡◌, ◌<◌, true, false, List, [], �
 use Rattle.std.specs.List.{filter}
 use Rattle.eme_types.specs.declared.sample.EncSample.{EncSample}
 use Rattle.eme_types.specs.declared.sample.Protect.{Protect}
-use Rattle.key_statuses.specs.Tracks.{Picks, head}
+use Rattle.cdm_world.specs.Tracks.{Picks, head}
 use Rattle.key_claims.specs.declared.claim.Claim.{Claim}
 use Rattle.key_claims.specs.declared.claim.Delivered.{Delivered}
 use Rattle.key_claims.specs.declared.claim.Delivered.TheVariants.{Taken, Stale}

@@ -4,7 +4,7 @@ use Rattle.eme_types.specs.declared.kid.KeyBytes.{KeyBytes}
 use Rattle.eme_types.specs.declared.sample.EncSample.{EncSample}
 use Rattle.eme_types.specs.declared.sample.Protect.{Protect}
 use Rattle.sample_crypt.specs.Decryption.{decryption}
-use Rattle.key_statuses.specs.In.{In}
+use Rattle.cdm_world.specs.In.{In}
 use Rattle.key_claims.specs.declared.claim.Claim.{Claim}
 use Rattle.key_claims.specs.TracksState.{ClaimState, FedTrack, TracksState}
 use Rattle.key_claims.specs.Changes.{find_fed}

@@ -1,7 +1,8 @@
 -- What the tracks keep.
 use Rattle.std.specs.Prelude.{ℕ, ◌≡◌, ◌≤◌, List, [], ◌∷◌, map, IsTrue}
-use Rattle.eme_types.specs.Fed.{max_samples, are_distinct}
-use Rattle.key_statuses.specs.In.{In}
+use Rattle.eme_types.specs.Fed.{are_distinct}
+use Rattle.eme_types.specs.declared.limits.TheConstants.{MAX_SAMPLES}
+use Rattle.cdm_world.specs.In.{In}
 use Rattle.key_claims.specs.declared.tracks.Tracks.TheInside.{Inside}
 use Rattle.key_claims.specs.TracksState.{ClaimState, FedTrack, TracksState}
 use Rattle.key_claims.specs.Fits.{Fits, Apart}
@@ -17,7 +18,7 @@ fed_id t = t.id
 
 -- no more samples are fed than the limit; the tracks have different ids; the places of claims differ, each claim fits its sample, and no two are on one sample
 pub record AreSound (s : TracksState) : Type 0 where
-  pub few : all_fed s.tracks ≤ max_samples
+  pub few : all_fed s.tracks ≤ MAX_SAMPLES
   pub distinct : IsTrue (are_distinct (map fed_id s.tracks))
   pub once : Once s.claims
   pub fits : (c : ClaimState) → In s.claims c → Fits s.tracks c

@@ -4,7 +4,7 @@ use Rattle.std.specs.List.{sum_by}
 use Rattle.eme_types.specs.declared.sample.EncSample.{EncSample}
 use Rattle.key_claims.specs.declared.track.Output.{Output}
 use Rattle.key_claims.specs.declared.track.Output.TheVariants.{Opened, Same}
-use Rattle.key_statuses.specs.Tracks.{Picks}
+use Rattle.cdm_world.specs.Tracks.{Picks}
 use Rattle.key_claims.specs.TracksState.{FedTrack}
 use Rattle.key_claims.specs.Changes.{resumed_one}
 

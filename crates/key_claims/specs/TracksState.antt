@@ -2,7 +2,7 @@
 use Rattle.std.specs.Prelude.{ℕ, Bool, List, length, Option}
 use Rattle.eme_types.specs.declared.kid.KeyBytes.{KeyBytes}
 use Rattle.eme_types.specs.declared.sample.EncSample.{EncSample}
-use Rattle.key_statuses.specs.Tracks.{TrackState}
+use Rattle.cdm_world.specs.Tracks.{TrackState}
 
 -- a claim that is not ended, with its clear bytes once they were delivered
 pub record ClaimState : Type 0 where

@@ -1,7 +1,7 @@
 // Which track, sample and claim a call takes: the first track in order, the least index.
 ghost use Rattle.std.specs.Prelude.{◌≡◌, map, None, MatchOption, IfSome, is_some};
 ghost use Rattle.key_statuses.specs.Picked.{picked};
-ghost use Rattle.key_statuses.specs.Tracks.{has_pick as picks_head, head};
+ghost use Rattle.cdm_world.specs.Tracks.{has_pick as picks_head, head};
 ghost use Rattle.key_claims.specs.TracksState.{track_of};
 ghost use Rattle.key_claims.specs.TrackValue.{fed_track};
 ghost use Rattle.key_claims.specs.Choice.{claim_pick, NoWorkOn, IsWorkOn, NoWork, IsWork, has_clear_head as clear_head, is_unkeyed as unkeyed, IsFirst, NoneIs, ready_on as ready_claim_on, IsReady, NoneReady, rests, AllRest, IsUnrested};

@@ -5,7 +5,7 @@ ghost use Rattle.key_claims.specs.TrackValue.{TrackValue, fed_track, left_of};
 ghost use Rattle.key_claims.specs.Changes.{empty_fed, more_out, more_fed, with_waiting, find_fed, StandsAt};
 ghost use Rattle.eme_types.specs.declared.sample.EncSample.{EncSample as Sample};
 ghost use Rattle.key_claims.specs.Choice.{protect_at};
-ghost use Rattle.key_statuses.specs.Tracks.{head};
+ghost use Rattle.cdm_world.specs.Tracks.{head};
 
 use eme_types::{Bytes, EncSample, Protect};
 use std::alloc::{AllocError, Global};

@@ -1,9 +1,10 @@
 // The tracks of the media, and the calls that feed, claim and publish their samples.
 ghost use Rattle.std.specs.Prelude.{◌≡◌, ◌≤◌, ◌<◌, ◌+◌, [], ◌∷◌, ◌++◌, true, map, length, slice_get, slice_index_or, MatchOption, IfOk, OnOk, OnErr, IsErrOf, Some, None, IsTrue};
 ghost use Rattle.std.specs.List.{filter};
-ghost use Rattle.eme_types.specs.Fed.{fragment_samples, max_samples, are_distinct};
+ghost use Rattle.eme_types.specs.Fed.{fragment_samples, are_distinct};
+ghost use Rattle.eme_types.specs.declared.limits.TheConstants.{MAX_SAMPLES};
 ghost use Rattle.eme_types.specs.declared.sample.EncSample.{EncSample as Sample};
-ghost use Rattle.key_statuses.specs.Tracks.{head};
+ghost use Rattle.cdm_world.specs.Tracks.{head};
 ghost use Rattle.key_claims.specs.TracksState.{FedTrack, track_of};
 ghost use Rattle.key_claims.specs.TrackValue.{TrackValue, fed_track, resumed_value, left_of, all_left, all_fed};
 ghost use Rattle.key_claims.specs.Claims.{is_other, revoked};
@@ -77,7 +78,7 @@ impl Tracks {
 
     /// The samples of a fragment come to their tracks, with room for what will be out of them.
     pub fn feed(&mut self, fragment: &Fragment) -> Result<(), AllocError>
-        requires { all_fed self.old.tracks + fragment_samples fragment.now ≤ max_samples }
+        requires { all_fed self.old.tracks + fragment_samples fragment.now ≤ MAX_SAMPLES }
         ensures ok { OnOk result (self.new ≡ record self.old { tracks = feed_all self.old.tracks fragment.now.parts }) }
         ensures err { OnErr result (self.new ≡ self.old) }
     {
@@ -248,7 +249,7 @@ fn empty_tracks(alloc: Global, ids: &[u32]) -> Result<Vec<Track>, AllocError>
 }
 
 fn all_left_of(tracks: &Vec<Track>) -> usize
-    requires { all_fed (map fed_track tracks.now.items) ≤ max_samples }
+    requires { all_fed (map fed_track tracks.now.items) ≤ MAX_SAMPLES }
     ensures { result ≡ all_left (map fed_track tracks.now.items) }
 {
     let mut all = 0usize;
@@ -266,7 +267,7 @@ fn hold_work(
     worker: u8,
     place: u64,
 ) -> Result<Claim, ClaimFault>
-    requires { length track.now.track.fed ≤ max_samples }
+    requires { length track.now.track.fed ≤ MAX_SAMPLES }
     ensures ok { IfOk result (λ c. HoldsWork claims.old track.now.track work worker place c claims.new) }
     ensures err { OnErr result (claims.new ≡ claims.old) }
     ensures memory { IsErrOf result ClaimFault.NoWork → ⊥ }
@@ -308,7 +309,7 @@ fn hold_work(
 /// The sample of the track at a place of the list that is out next.
 fn next_of(tracks: &Vec<Track>, at: usize) -> Published
     requires within { at < length tracks.now.items }
-    requires few { all_fed (map fed_track tracks.now.items) ≤ max_samples }
+    requires few { all_fed (map fed_track tracks.now.items) ≤ MAX_SAMPLES }
     ensures { IsNext (map fed_track tracks.now.items) at result.track result.index }
 {
     let track = &tracks[at];

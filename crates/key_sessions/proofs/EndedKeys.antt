@@ -6,8 +6,8 @@ use Rattle.std.proofs.lemmas.List.{append-nil, drop_all}
 use Rattle.std.proofs.lemmas.Slice.Eq.{bytes_eq-Decides}
 use Rattle.eme_types.specs.declared.kid.KeyBytes.{KeyBytes}
 use Rattle.key_statuses.specs.declared.table.KnownKey.{KnownKey}
-use Rattle.key_statuses.specs.In.{In}
-use Rattle.key_statuses.specs.Distinct.{Distinct}
+use Rattle.cdm_world.specs.In.{In}
+use Rattle.cdm_world.specs.Distinct.{Distinct}
 use Rattle.key_statuses.specs.Table.{key_in, released}
 use Rattle.key_statuses.specs.Statuses.{same_key, held_status, is_usable}
 use Rattle.key_sessions.specs.declared.lost.Lost.{Lost}

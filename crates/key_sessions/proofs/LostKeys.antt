@@ -3,9 +3,9 @@ use Rattle.std.proofs.Common.{◌≡◌, ℕ, ◌+◌, ◌<◌, ◌⊎◌, inl, 
 use Rattle.std.proofs.lemmas.List.{length-map, length-take-le, take_more, map-append}
 use Rattle.std.proofs.lemmas.Bool.Decides.{eqb_tells}
 use Rattle.eme_types.specs.declared.kid.KeyBytes.{KeyBytes}
-use Rattle.key_statuses.specs.In.{In}
-use Rattle.key_statuses.specs.Distinct.{Distinct}
-use Rattle.key_statuses.specs.Lost.{AreLost}
+use Rattle.cdm_world.specs.In.{In}
+use Rattle.cdm_world.specs.Distinct.{Distinct}
+use Rattle.cdm_world.specs.Lost.{AreLost}
 use Rattle.key_sessions.specs.declared.session.Session.{Session}
 use Rattle.key_sessions.specs.SessionOf.{session_of}
 use Rattle.key_sessions.specs.Machine.{SessionState, session_at, change_session}

@@ -9,7 +9,7 @@ use Rattle.eme_types.specs.declared.call.AppCall.{AppCall}
 use Rattle.eme_types.specs.declared.call.Effect.{Effect}
 use Rattle.task_queue.specs.declared.work.Job.{Job}
 use Rattle.task_queue.specs.Pending.{IsPending}
-use Rattle.key_statuses.specs.Lost.{AreLost}
+use Rattle.cdm_world.specs.Lost.{AreLost}
 use Rattle.key_sessions.specs.declared.call_plan.Answer.{Answer}
 use Rattle.key_sessions.specs.declared.call_plan.Answer.TheVariants.{Now, Later}
 use Rattle.key_sessions.specs.declared.call_plan.CallPlan.{CallPlan}

@@ -2,8 +2,8 @@
 use Rattle.std.specs.Prelude.{ℕ, ◌≡◌, ◌⊎◌, Bool, false, not, if◌then◌else◌, List, [], ◌∷◌, Option, Some, None}
 use Rattle.eme_types.specs.declared.kid.KeyBytes.{KeyBytes}
 use Rattle.key_statuses.specs.declared.table.KnownKey.{KnownKey}
-use Rattle.key_statuses.specs.In.{In}
-use Rattle.key_statuses.specs.Distinct.{Distinct}
+use Rattle.cdm_world.specs.In.{In}
+use Rattle.cdm_world.specs.Distinct.{Distinct}
 use Rattle.key_statuses.specs.Table.{key_in}
 use Rattle.key_statuses.specs.Statuses.{same_key}
 use Rattle.key_sessions.specs.declared.lost.Lost.{Lost}

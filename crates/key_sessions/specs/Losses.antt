@@ -1,6 +1,6 @@
 -- The keys that a step ends.
 use Rattle.std.specs.Prelude.{ℕ, List, Option}
-use Rattle.key_statuses.specs.Lost.{AreLost}
+use Rattle.cdm_world.specs.Lost.{AreLost}
 use Rattle.key_sessions.specs.declared.change.Change.{Change}
 use Rattle.key_sessions.specs.Machine.{SessionState}
 use Rattle.key_sessions.specs.Keys.{held_in}

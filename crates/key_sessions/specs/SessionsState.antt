@@ -1,7 +1,7 @@
 -- What contracts see of the sessions.
 use Rattle.std.specs.Prelude.{ℕ, ◌≡◌, List}
 use Rattle.eme_types.specs.declared.call.Effect.{Effect}
-use Rattle.key_statuses.specs.Lost.{AreLost}
+use Rattle.cdm_world.specs.Lost.{AreLost}
 use Rattle.key_sessions.specs.Machine.{Machine}
 use Rattle.key_sessions.specs.Keys.{held_key}
 use Rattle.key_sessions.specs.Steps.{Done}

@@ -7,7 +7,7 @@ use Rattle.key_sessions.specs.Machine.{Machine, empty_machine}
 use Rattle.key_sessions.specs.Keys.{pick}
 use Rattle.key_sessions.specs.Steps.{Done}
 use Rattle.key_sessions.specs.Tasks.{after_task}
-use Rattle.key_statuses.specs.Tracks.{TrackState, empty_track, resumed}
+use Rattle.cdm_world.specs.Tracks.{TrackState, empty_track, resumed}
 
 pub record World : Type 0 where
   pub machine : Machine

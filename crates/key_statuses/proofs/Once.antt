@@ -4,7 +4,7 @@ use Rattle.std.proofs.lemmas.Slice.Eq.{bytes_eq-Decides}
 use Rattle.std.proofs.lemmas.Bool.Decides.{not_from_Decides}
 use Rattle.eme_types.specs.declared.kid.KeyBytes.{KeyBytes}
 use Rattle.key_statuses.specs.declared.table.KnownKey.{KnownKey}
-use Rattle.key_statuses.specs.In.{In}
+use Rattle.cdm_world.specs.In.{In}
 use Rattle.key_statuses.specs.Table.{ids, KnowsEachOnce, grant_in, released}
 
 -- an id of a granted table is one of the table's, or the granted one

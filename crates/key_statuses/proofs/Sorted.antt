@@ -11,7 +11,7 @@ use Rattle.std.proofs.lemmas.Slice.Eq.{bytes_eq-Decides}
 use Rattle.std.proofs.lemmas.Map.Text.{is_eq-slice_cmp}
 use Rattle.eme_types.specs.declared.kid.Status.{Status}
 use Rattle.key_statuses.specs.declared.table.KnownKey.{KnownKey}
-use Rattle.key_statuses.specs.In.{In}
+use Rattle.cdm_world.specs.In.{In}
 use Rattle.key_statuses.specs.Table.{ids, KnowsEachOnce}
 use Rattle.key_statuses.specs.Statuses.{is_less, comes_before, insert_status, statuses_from, statuses, status_of, kid_of, AreSorted, reported_as}
 

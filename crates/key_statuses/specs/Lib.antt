@@ -1,10 +1,6 @@
-pub mod In
 pub mod Table
 pub mod TableState
 pub mod Statuses
 pub mod Loops
-pub mod Tracks
 pub mod Picked
-pub mod Distinct
-pub mod Lost
 pub mod Laws

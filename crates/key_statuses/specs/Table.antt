@@ -3,7 +3,7 @@ use Rattle.std.specs.Prelude.{ℕ, if◌then◌else◌, List, [], ◌∷◌, map
 use Rattle.std.specs.Str.{bytes_eq}
 use Rattle.eme_types.specs.declared.kid.KeyBytes.{KeyBytes}
 use Rattle.key_statuses.specs.declared.table.KnownKey.{KnownKey}
-use Rattle.key_statuses.specs.Distinct.{Distinct}
+use Rattle.cdm_world.specs.Distinct.{Distinct}
 
 -- the key under an id; none where the id is unknown or was released
 abbrev pub key_in : List KnownKey → List ℕ → Option KeyBytes

@@ -1,6 +1,6 @@
 // A session's key table.
 ghost use Rattle.std.specs.Prelude.{◌≡◌, ◌≤◌, ◌<◌, ◌+◌, ℕ, List, [], map, length, OnOk, OnErr, IsOk, IfOk, ◌↔◌};
-ghost use Rattle.key_statuses.specs.In.{In};
+ghost use Rattle.cdm_world.specs.In.{In};
 ghost use Rattle.key_statuses.specs.Table.{KnowsEachOnce, key_in, grant_in, released};
 ghost use Rattle.key_statuses.specs.Statuses.{AreSorted, reported_as, held_status as status_held, statuses as statuses_in};
 ghost use Rattle.key_statuses.specs.Loops.{FirstOf};

@@ -7,7 +7,7 @@ use Rattle.eme_types.specs.declared.call.Settled.TheVariants.{Resolved, Resolved
 use Rattle.eme_types.specs.declared.call.Effect.{Effect}
 use Rattle.eme_types.specs.declared.call.Effect.TheVariants.{Statuses, Closed, Promise, Fired}
 use Rattle.eme_types.specs.declared.entry.Entry.{Entry}
-use Rattle.key_statuses.specs.Tracks.{TrackState, find_track}
+use Rattle.cdm_world.specs.Tracks.{TrackState, find_track}
 use Rattle.cdm_state.specs.History.{world}
 use Rattle.cdm_state.specs.Output.{out}
 use Rattle.cdm_state.specs.Settlements.{effects_in, calls_in}

@@ -1,7 +1,7 @@
 // The summary of a history.
 ghost use Rattle.std.specs.Prelude.{◌≡◌, ◌+◌, ◌≤◌, IfOk, string_bytes, length, count_by, not};
 ghost use Rattle.cdm_state.specs.Settlements.{is_call as is_call_of, calls_in};
-ghost use Rattle.key_statuses.specs.Tracks.{find_track};
+ghost use Rattle.cdm_world.specs.Tracks.{find_track};
 ghost use Rattle.cdm_state.specs.History.{world};
 ghost use Rattle.output_order.specs.Summary.{is_resolved as is_resolved_of, is_rejected as is_rejected_of, resolves as resolves_of, rejects as rejects_of, times_resolved, times_rejected, waits, yes_or_no, track_line, summary_head, summary_of};
 

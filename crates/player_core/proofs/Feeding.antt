@@ -8,7 +8,8 @@ use Rattle.eme_types.specs.declared.media.Fragment.{Fragment}
 use Rattle.eme_types.specs.declared.media.Media.{Media}
 use Rattle.eme_types.specs.declared.entry.Entry.{Entry}
 use Rattle.eme_types.specs.declared.entry.Entry.TheVariants.{Feed}
-use Rattle.eme_types.specs.Fed.{IsFed, are_known, are_well_formed, fragment_samples, fragment_bytes, max_samples, max_bytes}
+use Rattle.eme_types.specs.Fed.{IsFed, are_known, are_well_formed, fragment_samples, fragment_bytes}
+use Rattle.eme_types.specs.declared.limits.TheConstants.{MAX_SAMPLES, MAX_SAMPLE_BYTES}
 use Rattle.cdm_state.specs.Run.{Run}
 use Rattle.cdm_state.specs.History.{MayFeedNext, samples_in, bytes_in, fed_samples, fed_bytes, fed_samples_of, fed_bytes_of}
 use Rattle.output_order.specs.Lane.{asked, feeds_in, fed_by}
@@ -114,8 +115,8 @@ may_feed_given media next r None m fed at = tt
 may_feed_given media next r (Some f) m fed at =
     let samples : sum_by fragment_samples (take next media.fragments) + fragment_samples f ≤ sum_by fragment_samples media.fragments = sum_within fragment_samples media.fragments next f at in
     let bytes : sum_by fragment_bytes (take next media.fragments) + fragment_bytes f ≤ sum_by fragment_bytes media.fragments = sum_within fragment_bytes media.fragments next f at in
-    let few : sum_by fragment_samples media.fragments ≤ max_samples = m.samples in
-    let small : sum_by fragment_bytes media.fragments ≤ max_bytes = m.bytes in
+    let few : sum_by fragment_samples media.fragments ≤ MAX_SAMPLES = m.samples in
+    let small : sum_by fragment_bytes media.fragments ≤ MAX_SAMPLE_BYTES = m.bytes in
     let samples_were : fed_samples r.history ≡ sum_by fragment_samples (take next media.fragments) = fed.samples in
     let bytes_were : fed_bytes r.history ≡ sum_by fragment_bytes (take next media.fragments) = fed.bytes in
     record {

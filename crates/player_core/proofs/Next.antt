@@ -12,7 +12,7 @@ use Rattle.eme_types.specs.declared.entry.Entry.TheVariants.{Call, Job, Task, Ti
 use Rattle.eme_types.specs.declared.entry.Verdict.{Verdict}
 use Rattle.eme_types.specs.declared.entry.Verdict.TheVariants.{Taken, Stale}
 use Rattle.key_sessions.specs.Keys.{pick}
-use Rattle.key_statuses.specs.Tracks.{TrackState, find_track}
+use Rattle.cdm_world.specs.Tracks.{TrackState, find_track}
 use Rattle.cdm_state.specs.History.{world, IsLegal, Allowed, Live, LiveOn, MayClaim, MayPublish, MayPassClear, MayWait}
 use Rattle.cdm_state.specs.Contract.{ComesFirst}
 use Rattle.cdm_state.specs.Progress.{NoneWaits}

@@ -9,7 +9,8 @@ use Rattle.eme_types.specs.declared.media.InitData.{InitData}
 use Rattle.eme_types.specs.declared.media.Fragment.{Fragment}
 use Rattle.eme_types.specs.declared.media.TrackPart.{TrackPart}
 use Rattle.eme_types.specs.WellFormed.{is_well_formed}
-use Rattle.eme_types.specs.Fed.{IsFed, is_among, are_distinct, has_samples, part_track, part_samples, part_bytes, sample_bytes, fragment_samples, fragment_bytes, are_well_formed, are_known, is_joined, max_tracks, max_samples, max_bytes}
+use Rattle.eme_types.specs.Fed.{IsFed, is_among, are_distinct, has_samples, part_track, part_samples, part_bytes, sample_bytes, fragment_samples, fragment_bytes, are_well_formed, are_known, is_joined}
+use Rattle.eme_types.specs.declared.limits.TheConstants.{MAX_TRACKS, MAX_SAMPLES, MAX_SAMPLE_BYTES}
 use Rattle.frag_boxes.proofs.Distinct.{distinct_end}
 use Rattle.track_media.specs.declared.line.ListLine.{ListLine}
 use Rattle.track_media.specs.declared.line.ListLine.TheVariants as a
@@ -21,7 +22,7 @@ abbrev pub part_formed : TrackPart → Bool
 part_formed p = list_all is_well_formed p.samples
 
 pub record Sound (g : Gathering) : Type 0 where
-  pub few : length g.known.tracks ≤ max_tracks
+  pub few : length g.known.tracks ≤ MAX_TRACKS
   pub distinct : are_distinct g.known.tracks ≡ true
   pub early : g.known.begun ≡ false → g.fragments ≡ []
   pub none : g.known.begun ≡ false → g.parts ≡ []
@@ -30,8 +31,8 @@ pub record Sound (g : Gathering) : Type 0 where
   pub formed : list_all are_well_formed g.fragments ≡ true
   pub parts : g.known.begun ≡ true → map part_track g.parts ≡ g.known.tracks
   pub parts_formed : list_all part_formed g.parts ≡ true
-  pub samples : sum_by fragment_samples g.fragments + sum_by part_samples g.parts + g.known.samples ≡ max_samples
-  pub bytes : sum_by fragment_bytes g.fragments + sum_by part_bytes g.parts + g.known.bytes ≡ max_bytes
+  pub samples : sum_by fragment_samples g.fragments + sum_by part_samples g.parts + g.known.samples ≡ MAX_SAMPLES
+  pub bytes : sum_by fragment_bytes g.fragments + sum_by part_bytes g.parts + g.known.bytes ≡ MAX_SAMPLE_BYTES
 
 pub nothing_sound : Sound nothing
 nothing_sound = record { few = lit≤ tt; distinct = refl; early = λ e. refl; none = λ e. refl; known = refl; joined = refl; formed = refl; parts = λ e. refl; parts_formed = refl; samples = refl; bytes = refl }
@@ -130,8 +131,8 @@ pub record SoundFragments (g : Gathering) (fs : List Fragment) : Type 0 where
   pub known : list_all (are_known g.known.tracks) fs ≡ true
   pub joined : list_all is_joined fs ≡ true
   pub formed : list_all are_well_formed fs ≡ true
-  pub samples : sum_by fragment_samples fs + g.known.samples ≡ max_samples
-  pub bytes : sum_by fragment_bytes fs + g.known.bytes ≡ max_bytes
+  pub samples : sum_by fragment_samples fs + g.known.samples ≡ MAX_SAMPLES
+  pub bytes : sum_by fragment_bytes fs + g.known.bytes ≡ MAX_SAMPLE_BYTES
 
 pub one_more : {A : Type 0} (p : A → Bool) (xs : List A) (x : A) → list_all p xs ≡ true → p x ≡ true → list_all p (xs ++ x ∷ []) ≡ true
 one_more p [] x e h = rw h refl

@@ -10,7 +10,8 @@ use Rattle.eme_types.specs.declared.media.InitData.{InitData}
 use Rattle.eme_types.specs.declared.media.Fragment.{Fragment}
 use Rattle.eme_types.specs.declared.media.Media.{Media}
 use Rattle.eme_types.specs.declared.media.TrackPart.{TrackPart}
-use Rattle.eme_types.specs.Fed.{is_among, are_distinct, has_samples, sample_bytes, max_samples, max_bytes}
+use Rattle.eme_types.specs.Fed.{is_among, are_distinct, has_samples, sample_bytes}
+use Rattle.eme_types.specs.declared.limits.TheConstants.{MAX_SAMPLES, MAX_SAMPLE_BYTES}
 use Rattle.track_media.specs.declared.line.ListLine.{ListLine}
 use Rattle.track_media.specs.declared.line.ListLine.TheVariants as a
 use Rattle.track_media.specs.declared.line.Known.{Known}
@@ -32,8 +33,8 @@ pub record Stands (before : List ListLine) (g : Gathering) : Type 0 where
   pub section : List ListLine
   pub tracks : g.known.tracks ≡ tracks_of before
   pub begun : g.known.begun ≡ list_any is_fragment before
-  pub samples : g.known.samples ≡ max_samples - length (samples_of before)
-  pub bytes : g.known.bytes ≡ max_bytes - sum_by sample_bytes (samples_of before)
+  pub samples : g.known.samples ≡ MAX_SAMPLES - length (samples_of before)
+  pub bytes : g.known.bytes ≡ MAX_SAMPLE_BYTES - sum_by sample_bytes (samples_of before)
   pub cut : sections before ≡ whole ++ open_at g.known.begun section
   pub early : g.known.begun ≡ false → whole ≡ []
   pub fragments : g.fragments ≡ map (fragment_of g.known.tracks) whole
@@ -44,7 +45,7 @@ same_known : (t u : List ℕ) (b c : Bool) (m n x y : ℕ) → t ≡ u → b ≡
 same_known t u b c m n x y p q r s = cc
 
 pub known_is : (before : List ListLine) (g : Gathering) → Stands before g → g.known ≡ known_from before
-known_is before g st = same_known g.known.tracks (tracks_of before) g.known.begun (list_any is_fragment before) g.known.samples (max_samples - length (samples_of before)) g.known.bytes (max_bytes - sum_by sample_bytes (samples_of before)) st.tracks st.begun st.samples st.bytes
+known_is before g st = same_known g.known.tracks (tracks_of before) g.known.begun (list_any is_fragment before) g.known.samples (MAX_SAMPLES - length (samples_of before)) g.known.bytes (MAX_SAMPLE_BYTES - sum_by sample_bytes (samples_of before)) st.tracks st.begun st.samples st.bytes
 
 pub nothing_stands : Stands [] nothing
 nothing_stands = record { whole = []; section = []; tracks = refl; begun = refl; samples = refl; bytes = refl; cut = refl; early = λ e. refl; fragments = refl; inits = λ e. refl; parts = λ e. refl }
@@ -175,8 +176,8 @@ track_stands before g id early st =
       section = st.section ++ a.Track id ∷ [];
       tracks = ap (λ ts. ts ++ id ∷ []) st.tracks ∙ sym (tracks_of-append before (a.Track id ∷ []));
       begun = st.begun ∙ sym (begun_at_end before (a.Track id) ∙ or_false (list_any is_fragment before) false refl);
-      samples = st.samples ∙ ap (λ ss. max_samples - length ss) (no_samples_more before (a.Track id) refl);
-      bytes = st.bytes ∙ ap (λ ss. max_bytes - sum_by sample_bytes ss) (no_samples_more before (a.Track id) refl);
+      samples = st.samples ∙ ap (λ ss. MAX_SAMPLES - length ss) (no_samples_more before (a.Track id) refl);
+      bytes = st.bytes ∙ ap (λ ss. MAX_SAMPLE_BYTES - sum_by sample_bytes ss) (no_samples_more before (a.Track id) refl);
       cut = grown_on before (a.Track id) st.whole st.section g.known.begun refl st.cut st.early;
       early = st.early;
       fragments = st.fragments ∙ subst (λ (w : List (List ListLine)). map (fragment_of g.known.tracks) w ≡ map (fragment_of (g.known.tracks ++ id ∷ [])) w) (sym none) refl;
@@ -190,8 +191,8 @@ fragment_stands before g st = record {
   section = [];
   tracks = st.tracks ∙ no_tracks_more before a.Fragment refl;
   begun = sym (begun_at_end before a.Fragment ∙ or_true (list_any is_fragment before) true refl);
-  samples = st.samples ∙ ap (λ ss. max_samples - length ss) (no_samples_more before a.Fragment refl);
-  bytes = st.bytes ∙ ap (λ ss. max_bytes - sum_by sample_bytes ss) (no_samples_more before a.Fragment refl);
+  samples = st.samples ∙ ap (λ ss. MAX_SAMPLES - length ss) (no_samples_more before a.Fragment refl);
+  bytes = st.bytes ∙ ap (λ ss. MAX_SAMPLE_BYTES - sum_by sample_bytes ss) (no_samples_more before a.Fragment refl);
   cut = sections_begun before;
   early = λ e. absurd cc;
   fragments = stands_whole before g st;
@@ -205,8 +206,8 @@ init_stands before g i st = record {
   section = st.section ++ a.Init i ∷ [];
   tracks = st.tracks ∙ no_tracks_more before (a.Init i) refl;
   begun = st.begun ∙ sym (begun_at_end before (a.Init i) ∙ or_false (list_any is_fragment before) false refl);
-  samples = st.samples ∙ ap (λ ss. max_samples - length ss) (no_samples_more before (a.Init i) refl);
-  bytes = st.bytes ∙ ap (λ ss. max_bytes - sum_by sample_bytes ss) (no_samples_more before (a.Init i) refl);
+  samples = st.samples ∙ ap (λ ss. MAX_SAMPLES - length ss) (no_samples_more before (a.Init i) refl);
+  bytes = st.bytes ∙ ap (λ ss. MAX_SAMPLE_BYTES - sum_by sample_bytes ss) (no_samples_more before (a.Init i) refl);
   cut = grown_on before (a.Init i) st.whole st.section g.known.begun refl st.cut st.early;
   early = st.early;
   fragments = st.fragments;
@@ -226,8 +227,8 @@ sample_stands before g id s distinct st = record {
   section = st.section ++ a.Sample id s ∷ [];
   tracks = st.tracks ∙ no_tracks_more before (a.Sample id s) refl;
   begun = st.begun ∙ sym (begun_at_end before (a.Sample id s) ∙ or_false (list_any is_fragment before) false refl);
-  samples = one_less max_samples g.known.samples 0 (samples_of before) s st.samples ∙ ap (λ ss. max_samples - length ss) (sym (samples_of-append before (a.Sample id s ∷ [])));
-  bytes = bytes_less max_bytes g.known.bytes (samples_of before) s st.bytes ∙ ap (λ ss. max_bytes - sum_by sample_bytes ss) (sym (samples_of-append before (a.Sample id s ∷ [])));
+  samples = one_less MAX_SAMPLES g.known.samples 0 (samples_of before) s st.samples ∙ ap (λ ss. MAX_SAMPLES - length ss) (sym (samples_of-append before (a.Sample id s ∷ [])));
+  bytes = bytes_less MAX_SAMPLE_BYTES g.known.bytes (samples_of before) s st.bytes ∙ ap (λ ss. MAX_SAMPLE_BYTES - sum_by sample_bytes ss) (sym (samples_of-append before (a.Sample id s ∷ [])));
   cut = grown_on before (a.Sample id s) st.whole st.section g.known.begun refl st.cut st.early;
   early = st.early;
   fragments = st.fragments;

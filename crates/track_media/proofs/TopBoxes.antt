@@ -10,7 +10,8 @@ use Rattle.iso_boxes.proofs.Gathering.{Reader, Gathers, left, ends, ends_broken,
 use Rattle.eme_types.specs.declared.media.InitData.{InitData}
 use Rattle.eme_types.specs.declared.media.Fragment.{Fragment}
 use Rattle.eme_types.specs.declared.media.Media.{Media}
-use Rattle.eme_types.specs.Fed.{IsFed, are_distinct, are_known, is_joined, are_well_formed, fragment_samples, fragment_bytes, max_tracks, max_samples, max_bytes}
+use Rattle.eme_types.specs.Fed.{IsFed, are_distinct, are_known, is_joined, are_well_formed, fragment_samples, fragment_bytes}
+use Rattle.eme_types.specs.declared.limits.TheConstants.{MAX_TRACKS, MAX_SAMPLES, MAX_SAMPLE_BYTES}
 use Rattle.frag_boxes.specs.declared.records.Movie.{Movie}
 use Rattle.frag_boxes.specs.Tracks.{track_id, HasTracks}
 use Rattle.track_media.specs.declared.kind.MediaFault.{MediaFault}
@@ -60,15 +61,15 @@ less most n fs f = omega (arith, sum_end n fs f)
 seen_more : (before : List TopPart) (p : TopPart) → Fits (seen_from before) p → saw (seen_from before) p ≡ seen_from (before ++ p ∷ [])
 seen_more before (part.Movie m) fits =
     let fs = fragments_end before (part.Movie m) in
-    same_seen _ _ _ _ _ _ (sym (movie_gained before m fits.0)) (ap (λ (xs : List Fragment). max_samples - sum_by fragment_samples xs) (sym fs)) (ap (λ (xs : List Fragment). max_bytes - sum_by fragment_bytes xs) (sym fs))
+    same_seen _ _ _ _ _ _ (sym (movie_gained before m fits.0)) (ap (λ (xs : List Fragment). MAX_SAMPLES - sum_by fragment_samples xs) (sym fs)) (ap (λ (xs : List Fragment). MAX_SAMPLE_BYTES - sum_by fragment_bytes xs) (sym fs))
 seen_more before (part.Fragment f) fits =
     let fs = fragments_end before (part.Fragment f) in
     same_seen _ _ _ _ _ _ (sym (movie_kept before (part.Fragment f) refl))
-    (less max_samples fragment_samples (fragments_in before) f ∙ ap (λ (xs : List Fragment). max_samples - sum_by fragment_samples xs) (sym fs))
-    (less max_bytes fragment_bytes (fragments_in before) f ∙ ap (λ (xs : List Fragment). max_bytes - sum_by fragment_bytes xs) (sym fs))
+    (less MAX_SAMPLES fragment_samples (fragments_in before) f ∙ ap (λ (xs : List Fragment). MAX_SAMPLES - sum_by fragment_samples xs) (sym fs))
+    (less MAX_SAMPLE_BYTES fragment_bytes (fragments_in before) f ∙ ap (λ (xs : List Fragment). MAX_SAMPLE_BYTES - sum_by fragment_bytes xs) (sym fs))
 seen_more before part.Other fits =
     let fs = fragments_end before part.Other in
-    same_seen _ _ _ _ _ _ (sym (movie_kept before part.Other refl)) (ap (λ (xs : List Fragment). max_samples - sum_by fragment_samples xs) (sym fs)) (ap (λ (xs : List Fragment). max_bytes - sum_by fragment_bytes xs) (sym fs))
+    same_seen _ _ _ _ _ _ (sym (movie_kept before part.Other refl)) (ap (λ (xs : List Fragment). MAX_SAMPLES - sum_by fragment_samples xs) (sym fs)) (ap (λ (xs : List Fragment). MAX_SAMPLE_BYTES - sum_by fragment_bytes xs) (sym fs))
 
 -- ---- the boxes that are left
 
@@ -123,14 +124,14 @@ reads_whole file s w e r =
 -- ---- what was read may be fed
 
 pub record Sound (s : FileParts) : Type 0 where
-  pub few : length (tracks_of s.seen.movie) ≤ max_tracks
+  pub few : length (tracks_of s.seen.movie) ≤ MAX_TRACKS
   pub distinct : are_distinct (tracks_of s.seen.movie) ≡ true
   pub early : s.seen.movie ≡ None → s.fragments ≡ []
   pub known : list_all (are_known (tracks_of s.seen.movie)) s.fragments ≡ true
   pub joined : list_all is_joined s.fragments ≡ true
   pub formed : list_all are_well_formed s.fragments ≡ true
-  pub samples : sum_by fragment_samples s.fragments + s.seen.room.samples ≡ max_samples
-  pub bytes : sum_by fragment_bytes s.fragments + s.seen.room.bytes ≡ max_bytes
+  pub samples : sum_by fragment_samples s.fragments + s.seen.room.samples ≡ MAX_SAMPLES
+  pub bytes : sum_by fragment_bytes s.fragments + s.seen.room.bytes ≡ MAX_SAMPLE_BYTES
 
 pub nothing_sound : Sound nothing_read
 nothing_sound = record { few = lit≤ tt; distinct = refl; early = λ e. refl; known = refl; joined = refl; formed = refl; samples = refl; bytes = refl }
@@ -163,8 +164,8 @@ fragment_sound s f of st =
       known = one_more (are_known (tracks_of s.seen.movie)) s.fragments f st.known known;
       joined = one_more is_joined s.fragments f st.joined of.within.joined;
       formed = one_more are_well_formed s.fragments f st.formed of.within.formed;
-      samples = rw (sum_end fragment_samples s.fragments f) (taken _ (fragment_samples f) s.seen.room.samples max_samples st.samples of.within.samples);
-      bytes = rw (sum_end fragment_bytes s.fragments f) (taken _ (fragment_bytes f) s.seen.room.bytes max_bytes st.bytes of.within.bytes);
+      samples = rw (sum_end fragment_samples s.fragments f) (taken _ (fragment_samples f) s.seen.room.samples MAX_SAMPLES st.samples of.within.samples);
+      bytes = rw (sum_end fragment_bytes s.fragments f) (taken _ (fragment_bytes f) s.seen.room.bytes MAX_SAMPLE_BYTES st.bytes of.within.bytes);
     }
 
 pub sound_on : (s : FileParts) (p : TopPart) → Fits s.seen p → Sound s → Sound (top_added s p)

@@ -5,7 +5,8 @@ use Rattle.eme_types.specs.declared.media.InitData.{InitData}
 use Rattle.eme_types.specs.declared.media.TrackPart.{TrackPart}
 use Rattle.eme_types.specs.declared.media.Fragment.{Fragment}
 use Rattle.eme_types.specs.declared.media.Media.{Media}
-use Rattle.eme_types.specs.Fed.{has_samples, max_samples, max_bytes}
+use Rattle.eme_types.specs.Fed.{has_samples}
+use Rattle.eme_types.specs.declared.limits.TheConstants.{MAX_SAMPLES, MAX_SAMPLE_BYTES}
 use Rattle.track_media.specs.declared.line.ListLine.{ListLine}
 use Rattle.track_media.specs.declared.line.ListLine.TheVariants as a
 use Rattle.track_media.specs.declared.line.Known.{Known}
@@ -18,7 +19,7 @@ pub record Gathering : Type 0 where
   pub parts : List TrackPart
 
 abbrev pub nothing : Gathering
-nothing = record { known = record { tracks = []; begun = false; samples = max_samples; bytes = max_bytes }; fragments = []; inits = []; parts = [] }
+nothing = record { known = record { tracks = []; begun = false; samples = MAX_SAMPLES; bytes = MAX_SAMPLE_BYTES }; fragments = []; inits = []; parts = [] }
 
 abbrev pub empty_part : ℕ → TrackPart
 empty_part track = record { track = track; samples = [] }

@@ -3,7 +3,8 @@ use Rattle.std.specs.Prelude.{◌≡◌, ◌⊎◌, ◌≤◌, ◌<◌, ℕ, ◌
 use Rattle.eme_types.specs.declared.sample.EncSample.{EncSample}
 use Rattle.eme_types.specs.declared.sample.Scheme.{Scheme}
 use Rattle.eme_types.specs.declared.sample.Scheme.TheVariants.{Cenc, Cbcs}
-use Rattle.eme_types.specs.Fed.{is_among, max_tracks}
+use Rattle.eme_types.specs.Fed.{is_among}
+use Rattle.eme_types.specs.declared.limits.TheConstants.{MAX_TRACKS}
 use Rattle.eme_types.specs.WellFormed.{is_well_formed}
 use Rattle.pattern_map.specs.declared.check.SampleFault.{SampleFault}
 use Rattle.pattern_map.specs.declared.check.SampleFault.TheVariants as unfit
@@ -57,7 +58,7 @@ track_line known words = do
   id ← required Line (track_id word)
   early ← holds Line (not known.begun)
   new ← holds TrackId (not (is_among known.tracks id))
-  few ← holds TooManyTracks (nat_lt (length known.tracks) max_tracks)
+  few ← holds TooManyTracks (nat_lt (length known.tracks) MAX_TRACKS)
   Ok (a.Track id)
 
 -- ---- `fragment`
@@ -182,7 +183,7 @@ line_in known line = if has_empty_word line then broken Line else verb_line know
 
 -- what every line that is not refused keeps
 abbrev pub Fits : Known → ListLine → Type 0
-Fits known (a.Track id) = (known.begun ≡ false) × (is_among known.tracks id ≡ false) × (length known.tracks < max_tracks)
+Fits known (a.Track id) = (known.begun ≡ false) × (is_among known.tracks id ≡ false) × (length known.tracks < MAX_TRACKS)
 Fits known a.Fragment = Unit {0}
 Fits known (a.Init init) = known.begun ≡ true
 Fits known (a.Sample id sample) = (known.begun ≡ true) × (is_among known.tracks id ≡ true) × (is_well_formed sample ≡ true) × (0 < known.samples) × (length sample.bytes ≤ known.bytes)

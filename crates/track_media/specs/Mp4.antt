@@ -5,7 +5,8 @@ use Rattle.std.specs.List.{sum_by}
 use Rattle.eme_types.specs.declared.media.InitData.{InitData}
 use Rattle.eme_types.specs.declared.media.Fragment.{Fragment}
 use Rattle.eme_types.specs.declared.media.Media.{Media}
-use Rattle.eme_types.specs.Fed.{fragment_samples, fragment_bytes, max_samples, max_bytes}
+use Rattle.eme_types.specs.Fed.{fragment_samples, fragment_bytes}
+use Rattle.eme_types.specs.declared.limits.TheConstants.{MAX_SAMPLES, MAX_SAMPLE_BYTES}
 use Rattle.iso_boxes.specs.Walk.{Found, walk}
 use Rattle.iso_boxes.specs.Children.{◌>>=◌, all_knowing}
 use Rattle.frag_boxes.specs.declared.records.Movie.{Movie}
@@ -78,7 +79,7 @@ fragments_in (_ ∷ ps) = fragments_in ps
 
 -- what the limits leave behind these fragments
 abbrev pub room_behind : List Fragment → Room
-room_behind fs = record { samples = max_samples - sum_by fragment_samples fs; bytes = max_bytes - sum_by fragment_bytes fs }
+room_behind fs = record { samples = MAX_SAMPLES - sum_by fragment_samples fs; bytes = MAX_SAMPLE_BYTES - sum_by fragment_bytes fs }
 
 -- what a box has to know of the parts before it
 abbrev pub seen_from : List TopPart → Seen

@@ -6,7 +6,8 @@ use Rattle.eme_types.specs.declared.media.InitData.{InitData}
 use Rattle.eme_types.specs.declared.media.TrackPart.{TrackPart}
 use Rattle.eme_types.specs.declared.media.Fragment.{Fragment}
 use Rattle.eme_types.specs.declared.media.Media.{Media}
-use Rattle.eme_types.specs.Fed.{has_samples, sample_bytes, max_samples, max_bytes}
+use Rattle.eme_types.specs.Fed.{has_samples, sample_bytes}
+use Rattle.eme_types.specs.declared.limits.TheConstants.{MAX_SAMPLES, MAX_SAMPLE_BYTES}
 use Rattle.track_media.specs.declared.kind.LineFault.{LineFault}
 use Rattle.track_media.specs.declared.kind.LineFault.TheVariants as line
 use Rattle.track_media.specs.declared.kind.MediaFault.{MediaFault}
@@ -77,8 +78,8 @@ abbrev pub known_from : List ListLine → Known
 known_from before = record {
   tracks = tracks_of before;
   begun = list_any is_fragment before;
-  samples = max_samples - length (samples_of before);
-  bytes = max_bytes - sum_by sample_bytes (samples_of before);
+  samples = MAX_SAMPLES - length (samples_of before);
+  bytes = MAX_SAMPLE_BYTES - sum_by sample_bytes (samples_of before);
 }
 
 infixl 10 ◌>>=◌

@@ -1,5 +1,5 @@
 use Rattle.std.proofs.Common.{◌≡◌, Some, sym, subst}
-use Rattle.key_statuses.specs.Tracks.{head}
+use Rattle.cdm_world.specs.Tracks.{head}
 use Rattle.key_claims.specs.TracksState.{FedTrack, track_of}
 use Rattle.key_claims.specs.TrackValue.{TrackValue}
 use Rattle.key_claims.specs.Changes.{more_out}

@@ -1,4 +1,4 @@
-use Rattle.key_statuses.specs.Tracks.{TrackState, empty_track}
+use Rattle.cdm_world.specs.Tracks.{TrackState, empty_track}
 use Rattle.cdm_state.specs.Contract.{FirstBusy}
 use Rattle.cdm_state.specs.History.{world, AtRest}
 use Rattle.player_core.proofs.Steps.{settles_now}

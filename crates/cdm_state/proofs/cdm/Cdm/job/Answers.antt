@@ -1,7 +1,7 @@
 use Rattle.std.proofs.Common.{◌≡◌, ◌≢◌, ◌≤◌, ◌+◌, ◌∙◌, ℕ, [], List, map, refl, length, false, sym, subst, arith, rules}
 use Rattle.std.specs.Prelude.{filter}
 use Rattle.eme_types.specs.declared.entry.Entry.TheVariants.{Job}
-use Rattle.key_statuses.specs.Lost.{AreLost}
+use Rattle.cdm_world.specs.Lost.{AreLost}
 use Rattle.key_sessions.specs.Keys.{held_key}
 use Rattle.key_sessions.specs.LostPair.{pair_of}
 use Rattle.key_sessions.specs.Jobs.{after_job}

@@ -1,6 +1,6 @@
 use Rattle.std.proofs.Common.{◌≡◌, ◌≤◌, ◌+◌, ◌∙◌, [], length, ap, sym, map, arith, List, ℕ}
 use Rattle.eme_types.specs.Fed.{are_distinct}
-use Rattle.key_statuses.specs.Tracks.{empty_track}
+use Rattle.cdm_world.specs.Tracks.{empty_track}
 use Rattle.key_sessions.specs.SessionsState.{SessionsState}
 use Rattle.key_claims.specs.TracksState.{TracksState, track_of}
 use Rattle.key_claims.specs.TrackValue.{all_left, all_fed}

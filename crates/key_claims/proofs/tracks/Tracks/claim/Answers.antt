@@ -3,7 +3,7 @@ use Rattle.key_claims.specs.TracksState.{FedTrack}
 use Rattle.key_claims.proofs.Lists.{here}
 use Rattle.key_claims.proofs.Fitting.{fits_held, apart_held}
 use Rattle.std.proofs.Common.{ap, ◌≡◌, map, ◌≤◌, length, sym, subst}
-use Rattle.eme_types.specs.Fed.{max_samples}
+use Rattle.eme_types.specs.declared.limits.TheConstants.{MAX_SAMPLES}
 use Rattle.key_claims.specs.TrackValue.{TrackValue, fed_track}
 use Rattle.key_claims.proofs.Lists.{fed_within, unwithin}
 use Rattle.key_claims.proofs.Sound.{once_held}
@@ -14,7 +14,7 @@ hold_work-requires g c =
     let vs = c.self.inside.tracks.items in
     let first = rw c.deref.ensures.value at c.in-Some.ensures in
     let lt = unwithin vs c.in-Some.work.at first.within in
-    subst (λ (v : TrackValue). length v.track.fed ≤ max_samples) (sym c.index.ensures) (fed_within vs max_samples c.in-Some.work.at c.index.result.now c.self.invariant.few lt)
+    subst (λ (v : TrackValue). length v.track.fed ≤ MAX_SAMPLES) (sym c.index.ensures) (fed_within vs MAX_SAMPLES c.in-Some.work.at c.index.result.now c.self.invariant.few lt)
 
 pub invariant_of-self : goal.invariant_of-self
 invariant_of-self g c =

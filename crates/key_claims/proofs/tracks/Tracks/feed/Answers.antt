@@ -1,7 +1,8 @@
 use Rattle.key_claims.specs.Kept.{fed_id}
 use Rattle.key_claims.proofs.Fitting.{fits_fed, ids_fed, still_distinct}
 use Rattle.std.proofs.Common.{◌≡◌, ◌≤◌, ◌+◌, ◌∙◌, List, map, ap, arith}
-use Rattle.eme_types.specs.Fed.{fragment_samples, max_samples}
+use Rattle.eme_types.specs.Fed.{fragment_samples}
+use Rattle.eme_types.specs.declared.limits.TheConstants.{MAX_SAMPLES}
 use Rattle.eme_types.specs.declared.media.TrackPart.{TrackPart}
 use Rattle.key_claims.specs.TracksState.{FedTrack}
 use Rattle.key_claims.specs.TrackValue.{fed_track, all_fed}
@@ -14,7 +15,7 @@ pub invariant_of-self-2 : goal.invariant_of-self-2
 invariant_of-self-2 c =
     let ts = map fed_track c.self.inside.tracks.items in
     let parts = c.args.fragment.now.parts in
-    let room : all_fed ts + fragment_samples c.args.fragment.now ≤ max_samples = rw (← c.self.view_is) at c.requires in
+    let room : all_fed ts + fragment_samples c.args.fragment.now ≤ MAX_SAMPLES = rw (← c.self.view_is) at c.requires in
     let came : map fed_track c.add_batches.new.tracks.items ≡ feed_all ts parts = c.add_batches.ensures ∙ (ap (λ (xs : List FedTrack). feed_all xs (map batch_part c.in_ok-batches.batches.items)) c.in_ok-reserve_batches.ensures.same ∙ ap (λ (ps : List TrackPart). feed_all ts ps) (c.in_ok-batches.ensures ∙ c.as_slice.ensures)) in
     let most = fed_all ts parts in
     let all = ap (λ (xs : List FedTrack). all_fed xs) came in

@@ -1,7 +1,7 @@
 use Rattle.key_claims.specs.Kept.{fed_id}
 use Rattle.key_claims.proofs.Fitting.{fits_out, not_clear, ids_changed, still_distinct}
 use Rattle.std.proofs.Common.{◌≡◌, ◌<◌, ◌∙◌, List, Some, length, map, ap, refl, get_or, arith}
-use Rattle.key_statuses.specs.Tracks.{head}
+use Rattle.cdm_world.specs.Tracks.{head}
 use Rattle.key_claims.specs.TracksState.{FedTrack, track_of}
 use Rattle.key_claims.specs.TrackValue.{fed_track, all_fed}
 use Rattle.key_claims.specs.Changes.{more_out}

@@ -1,6 +1,6 @@
 -- Lists in which no item stands twice.
 use Rattle.std.specs.Prelude.{List, [], ◌∷◌}
-use Rattle.key_statuses.specs.In.{In}
+use Rattle.cdm_world.specs.In.{In}
 
 -- no item stands twice
 abbrev pub Distinct : {A : Type 0} → List A → Type 0

@@ -1,8 +1,8 @@
 -- The keys that a step of the sessions ended.
 use Rattle.std.specs.Prelude.{ℕ, ◌≡◌, ◌⊎◌, List, Option, Some}
 use Rattle.eme_types.specs.declared.kid.KeyBytes.{KeyBytes}
-use Rattle.key_statuses.specs.In.{In}
-use Rattle.key_statuses.specs.Distinct.{Distinct}
+use Rattle.cdm_world.specs.In.{In}
+use Rattle.cdm_world.specs.Distinct.{Distinct}
 
 -- the pairs of a session and a key id that had a usable key before a step and have afterwards none or another one, each once
 pub record AreLost (old new : ℕ → List ℕ → Option KeyBytes) (list : List (ℕ × List ℕ)) : Type 0 where

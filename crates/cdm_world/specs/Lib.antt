@@ -1,0 +1,4 @@
+pub mod In
+pub mod Distinct
+pub mod Tracks
+pub mod Lost
