@@ -11,7 +11,7 @@ abbrev pub machine_of : Inside → Machine
 machine_of c = record { sessions = map session_of c.items.items; jobs = c.jobs.0; tasks = c.tasks.0; promises = c.promises; moment = c.moment; fired = c.fired.0 }
 
 abbrev pub state_of : Inside → SessionsState
-state_of c = record { machine = machine_of c; effects = c.effects; lost = map pair_of c.lost.items; room = c.room }
+state_of c = record { machine = machine_of c; effects = c.last.effects; lost = map pair_of c.last.lost.items; room = c.room }
 
 -- at most 64 sessions; each pending promise owed once; the room for events is there
 pub record KeptAs (m : Machine) (room spare : ℕ) : Type 0 where

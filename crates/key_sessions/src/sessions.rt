@@ -22,6 +22,7 @@ use crate::job_plan::{JobPlan, plan_job};
 use crate::losses::{lost_by, lost_in_time};
 use crate::lost::Lost;
 use crate::session::{Session, usable};
+use crate::step::{Step, no_step};
 use crate::task_plan::{TaskPlan, plan_task, plan_tick};
 use eme_types::{AppCall, Effect, Effects, Event, KeyId, Settled};
 use key_statuses::{Pick, Picks};
@@ -29,7 +30,7 @@ use std::alloc::{AllocError, Global};
 use std::marker::Model;
 use task_queue::{Job, Log, Promises, Queue, Task};
 
-/// The sessions, the moment, both queues, the promises and the fired events; what the last step did and which keys it ended; and the room that is kept for events.
+/// The sessions, the moment, both queues, the promises and the fired events; the last step; and the room that is kept for events.
 #[derive(Drop)]
 pub struct Sessions {
     alloc: Global,
@@ -39,8 +40,7 @@ pub struct Sessions {
     promises: Promises,
     moment: u64,
     fired: Log<Event>,
-    effects: Effects,
-    lost: Vec<Lost>,
+    last: Step,
     room: usize,
 }
 
@@ -68,8 +68,7 @@ impl Sessions {
             promises: Promises::new(alloc),
             moment: 0,
             fired: Log::new(alloc),
-            effects: Effects::new(alloc),
-            lost: Vec::new(alloc),
+            last: no_step(alloc),
             room: 0,
         }
     }
@@ -103,8 +102,10 @@ impl Sessions {
         add_session(&mut self.items, created);
         change_session(&mut self.items, session, change);
         give_answer(&mut self.promises, &mut self.jobs, promise, answer);
-        self.effects = effects;
-        self.lost = Vec::new(self.alloc);
+        self.last = Step {
+            effects,
+            lost: Vec::new(self.alloc),
+        };
         Ok(promise)
     }
 
@@ -135,8 +136,10 @@ impl Sessions {
         } = plan;
         change_session(&mut self.items, session, change);
         self.tasks.put(task);
-        self.effects = Effects::new(self.alloc);
-        self.lost = lost;
+        self.last = Step {
+            effects: Effects::new(self.alloc),
+            lost,
+        };
         Ok(())
     }
 
@@ -175,8 +178,7 @@ impl Sessions {
         self.tasks.put_all(queued);
         settle_promise(&mut self.promises, settled);
         fire_event(&mut self.fired, fired);
-        self.effects = effects;
-        self.lost = lost;
+        self.last = Step { effects, lost };
         Ok(resume)
     }
 
@@ -192,8 +194,10 @@ impl Sessions {
         self.tasks.reserve(wanted)?;
         self.tasks.put_all(reports);
         self.moment = moment;
-        self.effects = Effects::new(self.alloc);
-        self.lost = lost;
+        self.last = Step {
+            effects: Effects::new(self.alloc),
+            lost,
+        };
         Ok(())
     }
 
@@ -201,7 +205,7 @@ impl Sessions {
     pub fn effects(&self) -> &[Effect]
         ensures { result.now ≡ self.now.effects }
     {
-        self.effects.as_slice()
+        self.last.effects.as_slice()
     }
 
     /// Hands the effects of the last step out.
@@ -210,14 +214,24 @@ impl Sessions {
         ensures rest { self.new ≡ record self.old { effects = [] } }
     {
         let none = Effects::new(self.alloc);
-        std::mem::replace(&mut self.effects, none)
+        std::mem::replace(&mut self.last.effects, none)
+    }
+
+    /// Hands the last step out: its effects and the keys that it ended.
+    pub fn take_step(&mut self) -> Step
+        ensures effects { result.effects ≡ self.old.effects }
+        ensures lost { map pair_of result.lost.items ≡ self.old.lost }
+        ensures rest { self.new ≡ record self.old { effects = []; lost = [] } }
+    {
+        let none = no_step(self.alloc);
+        std::mem::replace(&mut self.last, none)
     }
 
     /// The keys that the last step ended, each once.
     pub fn lost(&self) -> &[Lost]
         ensures { map pair_of result.now ≡ self.now.lost }
     {
-        self.lost.as_slice()
+        self.last.lost.as_slice()
     }
 
     /// Makes the room for events at least `n`.
