@@ -8,11 +8,10 @@ use Rattle.iso_boxes.specs.Walk.{Found, Walked, inside, walk}
 use Rattle.iso_boxes.specs.Children.{◌>>=◌, each_knowing, if_any, ended, all_read, first_read, required, first, placed}
 use Rattle.iso_boxes.specs.Reading.{yield, given, repeated, has}
 use Rattle.iso_boxes.proofs.Walking.{not_err}
-use Rattle.iso_boxes.proofs.Repeating.{Takes, counted}
+use Rattle.iso_boxes.proofs.Bounds.{Bounded, one, one_if, given_one, given_nothing, signed_takes, number_takes, number24_takes, yield_takes, bind_takes, field_then, named_takes, repeated_takes, weaker, few_of}
 use Rattle.frag_boxes.specs.declared.fault.FragKind.{FragKind}
 use Rattle.frag_boxes.specs.declared.fault.FragKind.TheVariants.{Short, NoSinf, NoTfhd, NoTrackId}
 use Rattle.frag_boxes.specs.declared.fault.FragFault.{FragFault}
-use Rattle.frag_boxes.specs.declared.records.RunItem.{RunItem}
 use Rattle.frag_boxes.specs.declared.records.Trun.{Trun}
 use Rattle.frag_boxes.specs.declared.records.Traf.{Traf}
 use Rattle.frag_boxes.specs.declared.records.Moof.{Moof}
@@ -48,67 +47,55 @@ use Rattle.frag_boxes.specs.Moof.{GivesBox, fault_at, header_fault, span, traf_b
 use Rattle.frag_boxes.specs.Table.{is, behind, somes, entry_box, sinf_part, sinfs_at, protected_at, entry_as, entry_at, enough, entries_in, entries_at, stsd_at, stbl_box, stbl_part_as, stbl_part_at, stsd_seen, entries_of, groups, or_nothing, stbl_at, or_none, minf_at, mdia_at}
 use Rattle.frag_boxes.specs.Moov.{Seen, tkhd_at, trak_box, trak_part_as, trak_part_at, saw, ids, tables, track, track_from, trak_at, mvex_at, with_trex, moov_box, moov_part_as, moov_part_at, with_track, tracks_of, moov_psshs, trexes_of, moov_at}
 use Rattle.frag_boxes.specs.Counts.{count_of, entry_items, track_items, movie_items, run_items, traf_items, moof_items}
-use Rattle.frag_boxes.proofs.Taking.{then_ok, read_ok, body_len, walk_took, total, Small, each_small, all_small, number_takes, number24_takes, signed_takes, one_if, given_takes, yielded_size, some_size}
+use Rattle.frag_boxes.proofs.Taking.{then_ok, body_len, walk_took, total, Small, each_small, all_small, some_size}
 
 -- ---- a run
 
-u32_takes : Takes {E = FragKind} 1 u32
+u32_takes : Bounded {E = FragKind} one u32
 u32_takes = number_takes Short w32 1 (omega arith)
 
--- the flags of a run's fields of each sample give one byte at least for each that is set
-item_takes : (flags : ℕ) → Takes (one_if (has 0x100 flags) + one_if (has 0x200 flags) + one_if (has 0x400 flags) + one_if (has 0x800 flags)) (item flags)
-unfolding item
-item_takes flags bytes x after h =
-    let p = read_ok (given (has 0x100 flags) u32 bytes) _ (x, after) h in
-    let q = read_ok (given (has 0x200 flags) u32 p.0.1) _ (x, after) p.2 in
-    let r = read_ok (given (has 0x400 flags) u32 q.0.1) _ (x, after) q.2 in
-    let s = read_ok (given (has 0x800 flags) u32 r.0.1) _ (x, after) r.2 in
-    let a = given_takes (has 0x100 flags) u32 u32_takes bytes p.0.0 p.0.1 p.1 in
-    let b = given_takes (has 0x200 flags) u32 u32_takes p.0.1 q.0.0 q.0.1 q.1 in
-    let c = given_takes (has 0x400 flags) u32 u32_takes q.0.1 r.0.0 r.0.1 r.1 in
-    let d = given_takes (has 0x800 flags) u32 u32_takes r.0.1 s.0.0 s.0.1 s.1 in
-    let e = yielded_size (λ (y : RunItem). 0) _ x s.0.1 after s.2 in
-    omega (arith, a, b, c, d, e)
+abbrev flags_set : ℕ → ℕ
+flags_set flags = one_if (has 0x100 flags) + (one_if (has 0x200 flags) + (one_if (has 0x400 flags) + one_if (has 0x800 flags)))
 
-one_of : (a b c d : Bool) → (a || b || c || d) ≡ true → 1 ≤ one_if a + one_if b + one_if c + one_if d
+-- the flags of a run's fields of each sample give one byte at least for each that is set
+item_takes : (flags : ℕ) → Bounded (λ i. flags_set flags) (item flags)
+unfolding item
+item_takes flags =
+    let a = one_if (has 0x100 flags) in
+    let b = one_if (has 0x200 flags) in
+    let c = one_if (has 0x400 flags) in
+    let d = one_if (has 0x800 flags) in
+    bind_takes a (λ y. b + (c + d)) (λ y. a + (b + (c + d))) (given (has 0x100 flags) u32) _ (given_one (has 0x100 flags) u32 u32_takes) (λ duration.
+    bind_takes b (λ y. c + d) (λ y. b + (c + d)) (given (has 0x200 flags) u32) _ (given_one (has 0x200 flags) u32 u32_takes) (λ size.
+    bind_takes c (λ y. d) (λ y. c + d) (given (has 0x400 flags) u32) _ (given_one (has 0x400 flags) u32 u32_takes) (λ sample_flags.
+    named_takes (λ o. d) (λ y. d) (given (has 0x800 flags) u32) _ (given_one (has 0x800 flags) u32 u32_takes) (λ composition. refl)) (λ y. omega arith)) (λ y. omega arith)) (λ y. omega arith)
+
+one_of : (a b c d : Bool) → (a || b || c || d) ≡ true → 1 ≤ one_if a + (one_if b + (one_if c + one_if d))
 one_of true b c d h = omega arith
 one_of false true c d h = omega arith
 one_of false false true d h = omega arith
 one_of false false false true h = omega arith
 one_of false false false false h = absurd cc
 
-one_item_takes : (flags : ℕ) → has_items flags ≡ true → Takes 1 (item flags)
-one_item_takes flags h bytes x after e =
-    let t = item_takes flags bytes x after e in
+one_item_takes : (flags : ℕ) → has_items flags ≡ true → Bounded one (item flags)
+one_item_takes flags h =
     let o = one_of (has 0x100 flags) (has 0x200 flags) (has 0x400 flags) (has 0x800 flags) h in
-    omega (arith, t, o)
+    weaker (λ i. flags_set flags) one (item flags) (item_takes flags) (λ i. omega (arith, o))
 
-items_at : (c : Bool) (count flags : ℕ) → (c ≡ true → Takes 1 (item flags)) → (bytes : List ℕ) (xs : List RunItem) (after : List ℕ) → cond c (repeated count (item flags)) (yield []) bytes ≡ Ok (xs, after) → length xs ≤ length bytes
-items_at true count flags takes bytes xs after h =
-    let c = counted (item flags) 1 (takes refl) count bytes (xs, after) h in
-    omega (arith, c.many, c.taken)
-items_at false count flags takes bytes xs after h =
-    let e = yielded_size (λ (ys : List RunItem). length ys) [] xs bytes after h in
-    omega (arith, e)
+items_take : (c : Bool) (count flags : ℕ) → (c ≡ true → Bounded one (item flags)) → Bounded length (cond c (repeated count (item flags)) (yield []))
+items_take true count flags takes = repeated_takes count (item flags) (takes refl)
+items_take false count flags takes = yield_takes length [] refl
 
 -- a run has no more items than its box has bytes
-trun_few : (place : ℕ) (bytes : List ℕ) (t : Trun × List ℕ) → trun_fields place bytes ≡ Ok t → length t.0.items ≤ length bytes
+trun_takes : (place : ℕ) → Bounded run_items (trun_fields place)
 unfolding trun_fields
-trun_few place bytes t h =
-    let p = read_ok (u8 bytes) _ t h in
-    let q = read_ok (u24 p.0.1) _ t p.2 in
-    let r = read_ok (u32 q.0.1) _ t q.2 in
-    let s = read_ok (given (has 0x1 q.0.0) i32 r.0.1) _ t r.2 in
-    let f = read_ok (given (has 0x4 q.0.0) u32 s.0.1) _ t s.2 in
-    let i = read_ok (items r.0.0 q.0.0 f.0.1) _ t f.2 in
-    let a = number_takes Short w8 0 (omega arith) bytes p.0.0 p.0.1 p.1 in
-    let b = number24_takes Short p.0.1 q.0.0 q.0.1 q.1 in
-    let c = u32_takes q.0.1 r.0.0 r.0.1 r.1 in
-    let d = given_takes (has 0x1 q.0.0) i32 (signed_takes Short) r.0.1 s.0.0 s.0.1 s.1 in
-    let e = given_takes (has 0x4 q.0.0) u32 u32_takes s.0.1 f.0.0 f.0.1 f.1 in
-    let few = items_at (has_items q.0.0) r.0.0 q.0.0 (one_item_takes q.0.0) f.0.1 i.0.0 i.0.1 i.1 in
-    let y = yielded_size run_items _ t.0 i.0.1 t.1 i.2 in
-    omega (arith, a, b, c, d, e, few, y)
+trun_takes place =
+    field_then run_items u8 _ (number_takes Short w8 0 (omega arith)) (λ version.
+    field_then run_items u24 _ (number24_takes Short) (λ flags.
+    field_then run_items u32 _ (number_takes Short w32 0 (omega arith)) (λ count.
+    field_then run_items (given (has 0x1 flags) i32) _ (given_nothing (has 0x1 flags) i32 (signed_takes Short)) (λ offset.
+    field_then run_items (given (has 0x4 flags) u32) _ (given_nothing (has 0x4 flags) u32 (number_takes Short w32 0 (omega arith))) (λ first_flags.
+    named_takes length run_items (items count flags) _ (items_take (has_items flags) count flags (one_item_takes flags)) (λ xs. refl))))))
 
 -- ---- sample entries
 
@@ -391,7 +378,7 @@ placed_ok at (Err k) x h = absurd cc
 run_few : (b : Found) (r : Trun) → placed (fault_at b.place) (trun_fields b.place b.body) ≡ Ok r → run_items r ≤ length b.body
 run_few b r h =
     let p = placed_ok (fault_at b.place) (trun_fields b.place b.body) r h in
-    same_size run_items p.0.0 r _ (trun_few b.place b.body p.0 p.1) p.2
+    same_size run_items p.0.0 r _ (few_of _ _ _ ((trun_takes b.place).bound b.body p.0.0 p.0.1 p.1)) p.2
 
 traf_small_as : (k : TrafBox) (seen : Bool) (b : Found) (p : TrafPart) → part_as k seen b ≡ Ok p → traf_size p ≤ 1 + length b.body
 traf_small_as traf.Tfhd true b p h = same_size traf_size traf_part.Other p _ (omega arith) cc

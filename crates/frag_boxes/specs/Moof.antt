@@ -1,9 +1,9 @@
 -- A movie fragment, moof (ISO/IEC 14496-12 section 8.8.4): its boxes in file order, each whole; a rule on a missing box at its end.
-use Rattle.std.specs.Prelude.{◌≡◌, ◌⊎◌, ℕ, Bool, true, false, List, [], ◌∷◌, length, Result, Ok, Err, codes, bytes_eq, if◌then◌else◌}
+use Rattle.std.specs.Prelude.{◌≡◌, ℕ, Bool, true, false, List, [], ◌∷◌, length, Result, Ok, codes, bytes_eq, if◌then◌else◌}
 use Rattle.iso_boxes.specs.declared.walk.BoxFault.{BoxFault}
-use Rattle.iso_boxes.specs.declared.walk.BoxFault.TheVariants as header
+use Rattle.eme_types.specs.FirstFault as first_fault
 use Rattle.iso_boxes.specs.Walk.{Found, inside}
-use Rattle.iso_boxes.specs.Children.{◌>>=◌, all_read, all_knowing, required, first, placed}
+use Rattle.iso_boxes.specs.Children.{◌>>=◌, all_read, all_knowing, broken_header, required, first, placed}
 use Rattle.frag_boxes.specs.declared.fault.FragKind.{FragKind}
 use Rattle.frag_boxes.specs.declared.fault.FragKind.TheVariants.{Short, SizeTooSmall, PastEnd, NoTfhd, OutOfMemory}
 use Rattle.frag_boxes.specs.declared.fault.FragFault.{FragFault}
@@ -24,17 +24,17 @@ use Rattle.frag_boxes.specs.Fields.{tfhd_fields, trun_fields}
 
 -- what a reader returned is what the definition reads, unless memory ran out
 abbrev pub GivesBox : {X : Type 0} → Result X FragFault → Result X FragFault → Type 0
-GivesBox (Ok x) read = read ≡ Ok x
-GivesBox (Err e) read = (e.kind ≡ OutOfMemory) ⊎ (read ≡ Err e)
+GivesBox result read = first_fault.Gives (λ e. e.kind ≡ OutOfMemory) (λ x. x) result read
 
-abbrev pub header_fault : BoxFault → FragFault
-header_fault (header.Short p) = record { place = p; kind = Short }
-header_fault (header.SizeTooSmall p) = record { place = p; kind = SizeTooSmall }
-header_fault (header.PastEnd p) = record { place = p; kind = PastEnd }
-
+-- a broken rule at a place
 abbrev pub fault_at : ℕ → FragKind → FragFault
 fault_at place kind = record { place = place; kind = kind }
 
+-- a broken header inside a box
+abbrev pub header_fault : BoxFault → FragFault
+header_fault f = broken_header fault_at Short SizeTooSmall PastEnd f
+
+-- where a box stands
 abbrev pub span : Found → Span
 span b = record { place = b.place; body_place = b.body_place; len = length b.body }
 
