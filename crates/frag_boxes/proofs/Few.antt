@@ -1,6 +1,7 @@
 -- The lists of a movie and of a fragment have together no more items than the box has bytes.
-use Rattle.std.proofs.Common.{◌≡◌, ℕ, zero, suc, ◌+◌, ◌≤◌, Bool, true, false, cond, List, [], ◌∷◌, length, map, take, drop, Option, Some, None, Result, Ok, Err, refl, ap, subst, arith}
-use Rattle.std.specs.Prelude.{IfOk, nat_lt, ◌==◌, ◌||◌, find, codes}
+use Rattle.std.proofs.Common.{◌≡◌, ℕ, zero, suc, ◌+◌, ◌≤◌, Bool, true, false, cond, List, [], ◌∷◌, ◌++◌, length, map, take, drop, Option, Some, None, Result, Ok, Err, refl, ap, subst, arith}
+use Rattle.std.specs.Prelude.{IfOk, nat_lt, ◌==◌, ◌||◌, find, codes, bytes_eq}
+use Rattle.std.proofs.lemmas.Slice.Eq.{bytes_eq-Decides}
 use Rattle.std.specs.Int.{w8, w32}
 use Rattle.std.proofs.lemmas.List.{length-drop}
 use Rattle.iso_boxes.specs.declared.walk.BoxFault.{BoxFault}
@@ -12,6 +13,7 @@ use Rattle.iso_boxes.proofs.Bounds.{Bounded, one, one_if, given_one, given_nothi
 use Rattle.frag_boxes.specs.declared.fault.FragKind.{FragKind}
 use Rattle.frag_boxes.specs.declared.fault.FragKind.TheVariants.{Short, NoSinf, NoTfhd, NoTrackId}
 use Rattle.frag_boxes.specs.declared.fault.FragFault.{FragFault}
+use Rattle.frag_boxes.specs.declared.records.Span.{Span}
 use Rattle.frag_boxes.specs.declared.records.Trun.{Trun}
 use Rattle.frag_boxes.specs.declared.records.Traf.{Traf}
 use Rattle.frag_boxes.specs.declared.records.Moof.{Moof}
@@ -43,7 +45,7 @@ use Rattle.frag_boxes.specs.declared.moov.MoovBox.TheVariants as moov
 use Rattle.frag_boxes.specs.declared.moov.MoovPart.{MoovPart}
 use Rattle.frag_boxes.specs.declared.moov.MoovPart.TheVariants as moov_part
 use Rattle.frag_boxes.specs.Fields.{u8, u24, u32, i32, item, has_items, items, trun_fields, tfhd_fields, stsd_fields, stsz_fields, audio_version}
-use Rattle.frag_boxes.specs.Moof.{GivesBox, fault_at, header_fault, span, traf_box, part_as, part_at, head_seen, heads, runs, sencs, saizs, saios, sgpds, sbgps, traf_from, traf_at, moof_box, moof_part_as, moof_part_at, trafs, psshs, moof_at}
+use Rattle.frag_boxes.specs.Moof.{GivesBox, fault_at, header_fault, span, traf_box, part_as, part_at, head_seen, heads, runs, spans_of, traf_from, traf_at, moof_box, moof_part_as, moof_part_at, trafs, psshs, moof_at}
 use Rattle.frag_boxes.specs.Table.{is, behind, somes, entry_box, sinf_part, sinfs_at, protected_at, entry_as, entry_at, enough, entries_in, entries_at, stsd_at, stbl_box, stbl_part_as, stbl_part_at, stsd_seen, entries_of, groups, or_nothing, stbl_at, or_none, minf_at, mdia_at}
 use Rattle.frag_boxes.specs.Moov.{Seen, tkhd_at, trak_box, trak_part_as, trak_part_at, saw, ids, tables, track, track_from, trak_at, mvex_at, with_trex, moov_box, moov_part_as, moov_part_at, with_track, tracks_of, moov_psshs, trexes_of, moov_at}
 use Rattle.frag_boxes.specs.Counts.{count_of, entry_items, track_items, movie_items, run_items, traf_items, moof_items}
@@ -364,11 +366,7 @@ moov_few b m h =
 abbrev traf_size : TrafPart → ℕ
 traf_size (traf_part.Head h) = 0
 traf_size (traf_part.Run r) = 1 + run_items r
-traf_size (traf_part.Senc x) = 1
-traf_size (traf_part.Saiz x) = 1
-traf_size (traf_part.Saio x) = 1
-traf_size (traf_part.Sgpd x) = 1
-traf_size (traf_part.Sbgp x) = 1
+traf_size (traf_part.Placed k x) = 1
 traf_size traf_part.Other = 0
 
 placed_ok : {E K A : Type 0} (at : K → E) (r : Result (A × List ℕ) K) (x : A) → placed at r ≡ Ok x → (y : A × List ℕ) × (r ≡ Ok y) × (y.0 ≡ x)
@@ -389,23 +387,52 @@ traf_small_as traf.Trun seen b p h =
     let q = then_ok (placed (fault_at b.place) (trun_fields b.place b.body)) _ p h in
     let few = run_few b q.0 q.1 in
     same_size traf_size (traf_part.Run q.0) p _ (omega (arith, few)) cc
-traf_small_as traf.Senc seen b p h = same_size traf_size (traf_part.Senc (span b)) p _ (omega arith) cc
-traf_small_as traf.Saiz seen b p h = same_size traf_size (traf_part.Saiz (span b)) p _ (omega arith) cc
-traf_small_as traf.Saio seen b p h = same_size traf_size (traf_part.Saio (span b)) p _ (omega arith) cc
-traf_small_as traf.Sgpd seen b p h = same_size traf_size (traf_part.Sgpd (span b)) p _ (omega arith) cc
-traf_small_as traf.Sbgp seen b p h = same_size traf_size (traf_part.Sbgp (span b)) p _ (omega arith) cc
-traf_small_as traf.Other seen b p h = same_size traf_size traf_part.Other p _ (omega arith) cc
+traf_small_as traf.Other seen b p h = same_size traf_size (traf_part.Placed b.kind (span b)) p _ (omega arith) cc
 
-traf_total : (ps : List TrafPart) → count_of run_items (runs ps) + length (sencs ps) + length (saizs ps) + length (saios ps) + length (sgpds ps) + length (sbgps ps) ≡ total traf_size ps
-traf_total [] = refl
-traf_total (traf_part.Head h ∷ ps) = omega (arith, traf_total ps)
-traf_total (traf_part.Run r ∷ ps) = omega (arith, traf_total ps)
-traf_total (traf_part.Senc x ∷ ps) = omega (arith, traf_total ps)
-traf_total (traf_part.Saiz x ∷ ps) = omega (arith, traf_total ps)
-traf_total (traf_part.Saio x ∷ ps) = omega (arith, traf_total ps)
-traf_total (traf_part.Sgpd x ∷ ps) = omega (arith, traf_total ps)
-traf_total (traf_part.Sbgp x ∷ ps) = omega (arith, traf_total ps)
-traf_total (traf_part.Other ∷ ps) = omega (arith, traf_total ps)
+-- a box has one type, so it stands in one list at most
+abbrev times : List ℕ → List ℕ → ℕ
+times kind k = one_if (bytes_eq k kind)
+
+last_kind : (c : Bool) → one_if c ≤ 1
+last_kind true = omega arith
+last_kind false = omega arith
+
+other_at : (c : Bool) (a k : List ℕ) (rest : List ℕ → ℕ) → (c ≡ true → k ≡ a) → rest a ≡ 0 → rest k ≤ 1 → one_if c + rest k ≤ 1
+other_at true a k rest same none few = omega (arith, ap rest (same refl), none)
+other_at false a k rest same none few = omega (arith, few)
+
+other_kind : (a k : List ℕ) (rest : List ℕ → ℕ) → rest a ≡ 0 → rest k ≤ 1 → times a k + rest k ≤ 1
+other_kind a k rest none few = other_at (bytes_eq k a) a k rest (bytes_eq-Decides k a).0 none few
+
+one_kind : (k : List ℕ) → times (codes "senc") k + (times (codes "saiz") k + (times (codes "saio") k + (times (codes "sgpd") k + times (codes "sbgp") k))) ≤ 1
+one_kind k =
+    other_kind (codes "senc") k (λ k. times (codes "saiz") k + (times (codes "saio") k + (times (codes "sgpd") k + times (codes "sbgp") k))) refl
+    (other_kind (codes "saiz") k (λ k. times (codes "saio") k + (times (codes "sgpd") k + times (codes "sbgp") k)) refl
+    (other_kind (codes "saio") k (λ k. times (codes "sgpd") k + times (codes "sbgp") k) refl
+    (other_kind (codes "sgpd") k (times (codes "sbgp")) refl (last_kind _))))
+
+placed_at : (c : Bool) (x : Span) (rest : List Span) → length (cond c (x ∷ []) [] ++ rest) ≡ one_if c + length rest
+placed_at true x rest = omega arith
+placed_at false x rest = omega arith
+
+abbrev many : List ℕ → List TrafPart → ℕ
+many kind ps = length (spans_of kind ps)
+
+placed_more : (kind k : List ℕ) (x : Span) (ps : List TrafPart) → many kind (traf_part.Placed k x ∷ ps) ≡ times kind k + many kind ps
+placed_more kind k x ps = placed_at (bytes_eq k kind) x (spans_of kind ps)
+
+abbrev all_lists : List TrafPart → ℕ
+all_lists ps = count_of run_items (runs ps) + many (codes "senc") ps + many (codes "saiz") ps + many (codes "saio") ps + many (codes "sgpd") ps + many (codes "sbgp") ps
+
+traf_total : (ps : List TrafPart) → all_lists ps ≤ total traf_size ps
+traf_total [] = omega arith
+traf_total (traf_part.Head h ∷ ps) = let t = traf_total ps in omega (arith, t)
+traf_total (traf_part.Run r ∷ ps) = let t = traf_total ps in omega (arith, t)
+traf_total (traf_part.Placed k x ∷ ps) =
+    let t = traf_total ps in
+    let n = one_kind k in
+    omega (arith, t, n, placed_more (codes "senc") k x ps, placed_more (codes "saiz") k x ps, placed_more (codes "saio") k x ps, placed_more (codes "sgpd") k x ps, placed_more (codes "sbgp") k x ps)
+traf_total (traf_part.Other ∷ ps) = let t = traf_total ps in omega (arith, t)
 
 traf_few : (b : Found) (t : Traf) → traf_at b ≡ Ok t → traf_items t ≤ length b.body
 unfolding traf_at
@@ -413,8 +440,9 @@ traf_few b t h =
     let p = then_ok _ (traf_from b.place) t h in
     let q = then_ok (required (fault_at b.place NoTfhd) (first (heads p.0))) _ t p.2 in
     let small = all_small header_fault traf_size part_at head_seen (λ seen b p e. traf_small_as (traf_box b.kind) seen b p e) false (inside b) p.0 p.1 in
+    let few = traf_total p.0 in
     let took = inside_took b in
-    same_size traf_items (record { place = b.place; tfhd = q.0; runs = runs p.0; senc = sencs p.0; saiz = saizs p.0; saio = saios p.0; sgpd = sgpds p.0; sbgp = sbgps p.0 }) t _ (omega (arith, small, took, traf_total p.0)) cc
+    same_size traf_items (record { place = b.place; tfhd = q.0; runs = runs p.0; senc = spans_of (codes "senc") p.0; saiz = spans_of (codes "saiz") p.0; saio = spans_of (codes "saio") p.0; sgpd = spans_of (codes "sgpd") p.0; sbgp = spans_of (codes "sbgp") p.0 }) t _ (omega (arith, small, took, few)) cc
 
 abbrev moof_size : MoofPart → ℕ
 moof_size (moof_part.Fragment t) = 1 + traf_items t
