@@ -49,7 +49,7 @@ use Rattle.frag_boxes.specs.Moof.{GivesBox, fault_at, header_fault, span, traf_b
 use Rattle.frag_boxes.specs.Table.{is, behind, somes, entry_box, sinf_part, sinfs_at, protected_at, entry_as, entry_at, enough, entries_in, entries_at, stsd_at, stbl_box, stbl_part_as, stbl_part_at, stsd_seen, entries_of, groups, or_nothing, stbl_at, or_none, minf_at, mdia_at}
 use Rattle.frag_boxes.specs.Moov.{Seen, tkhd_at, trak_box, trak_part_as, trak_part_at, saw, ids, tables, track, track_from, trak_at, mvex_at, with_trex, moov_box, moov_part_as, moov_part_at, with_track, tracks_of, moov_psshs, trexes_of, moov_at}
 use Rattle.frag_boxes.specs.Counts.{count_of, entry_items, track_items, movie_items, run_items, traf_items, moof_items}
-use Rattle.frag_boxes.proofs.Taking.{then_ok, body_len, walk_took, total, Small, each_small, all_small, some_size}
+use Rattle.frag_boxes.proofs.Taking.{then_ok, not_else, body_len, walk_took, total, Small, each_small, all_small, some_size}
 
 -- ---- a run
 
@@ -109,11 +109,6 @@ somes_total : {A : Type 0} (os : List (Option A)) → length (somes os) ≡ tota
 somes_total [] = refl
 somes_total (None ∷ os) = omega (arith, somes_total os)
 somes_total (Some x ∷ os) = omega (arith, somes_total os)
-
--- where the answer is the other one
-not_else : {A E : Type 0} (c : Bool) (r : Result A E) (e : E) (y : A) → cond c r (Err e) ≡ Ok y → r ≡ Ok y
-not_else true r e y h = h
-not_else false r e y h = absurd cc
 
 inside_took : (b : Found) → count_of body_len (inside b).boxes ≤ length b.body
 inside_took b = walk_took b.body b.body_place false

@@ -14,6 +14,11 @@ pub then_ok : {E A B : Type 0} (r : Result A E) (f : A → Result B E) (y : B) �
 then_ok (Ok x) f y h = (x, refl, h)
 then_ok (Err e) f y h = absurd cc
 
+-- where the answer is the other one
+pub not_else : {A E : Type 0} (c : Bool) (r : Result A E) (e : E) (y : A) → cond c r (Err e) ≡ Ok y → r ≡ Ok y
+not_else true r e y h = h
+not_else false r e y h = absurd cc
+
 -- ---- the boxes of a walk
 
 abbrev pub body_len : Found → ℕ

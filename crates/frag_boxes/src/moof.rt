@@ -5,6 +5,7 @@ ghost use Rattle.iso_boxes.specs.Children.{placed};
 ghost use Rattle.frag_boxes.specs.declared.fault.FragKind.TheVariants.{OutOfMemory};
 ghost use Rattle.frag_boxes.specs.Fields.{tfhd_fields, trun_fields};
 ghost use Rattle.frag_boxes.specs.Moof.{GivesBox, fault_at, span, part_at, span_if, traf_at, moof_part_at, moof_at};
+ghost use Rattle.frag_boxes.specs.Places.{MoofLies};
 ghost use Rattle.frag_boxes.specs.Counts.{moof_items};
 ghost use Rattle.frag_boxes.specs.Gathering.{nothing, added, moof_added};
 
@@ -85,12 +86,7 @@ fn read_part(alloc: Global, seen: bool, at: &BoxRef<'_>) -> Result<TrafPart, Fra
     }
 }
 
-fn push_if(
-    spans: &mut Spans,
-    kind: [u8; 4],
-    found: [u8; 4],
-    span: Span,
-) -> Result<(), AllocError>
+fn push_if(spans: &mut Spans, kind: [u8; 4], found: [u8; 4], span: Span) -> Result<(), AllocError>
     ensures { OnOk result (spans.new ≡ spans.old ++ span_if kind found span) }
 {
     if found == kind {
@@ -235,13 +231,16 @@ fn moof_of(alloc: Global, at: &BoxRef<'_>) -> Result<Moof, FragFault>
 
 /// Reads a movie fragment, whose type is not looked at. Boxes that no record names are passed over, and so is what stands behind the
 /// fields of a box. The condition is that the place behind the box is a `u64`.
-#[tactic(auto, using(crate::proofs::Few::few_in_fragment))]
+#[tactic(auto, using(crate::proofs::Few::few_in_fragment, crate::proofs::Inside::fragment_lies))]
 pub fn read_moof(alloc: Global, at: &BoxRef<'_>) -> Result<Moof, FragFault>
     requires { at.now.body_place + length at.now.body.now < 2 ^ 64 }
     ensures exact { GivesBox result (moof_at (found at.now)) }
 
     // all its lists together
     ensures bounded { IfOk result (λ moof. moof_items moof ≤ length at.now.body.now) }
+
+    // its spans
+    ensures inside { IfOk result (MoofLies (found at.now)) }
 {
     moof_of(alloc, at)
 }
