@@ -1,6 +1,6 @@
 -- A track fragment is gathered box after box.
 use Rattle.std.proofs.Common.{◌≡◌, ℕ, Bool, true, List, [], ◌∷◌, ◌++◌, Option, Some, None, Result, Ok, refl, ◌∙◌, append_assoc}
-use Rattle.std.specs.Prelude.{is_some}
+use Rattle.std.specs.Prelude.{is_some, codes}
 use Rattle.std.proofs.lemmas.List.{append-nil}
 use Rattle.iso_boxes.specs.Walk.{Found, Walked, inside}
 use Rattle.iso_boxes.specs.Children.{◌>>=◌, required, first}
@@ -16,7 +16,7 @@ use Rattle.frag_boxes.specs.declared.moof.TrafParts.{TrafParts}
 use Rattle.frag_boxes.specs.declared.moof.MoofParts.{MoofParts}
 use Rattle.frag_boxes.specs.declared.moof.MoofPart.{MoofPart}
 use Rattle.frag_boxes.specs.declared.moof.MoofPart.TheVariants as moof_part
-use Rattle.frag_boxes.specs.Moof.{fault_at, header_fault, part_at, head_seen, heads, runs, sencs, saizs, saios, sgpds, sbgps, traf_at, moof_part_at, trafs, psshs, moof_at}
+use Rattle.frag_boxes.specs.Moof.{fault_at, header_fault, part_at, head_seen, heads, runs, spans_of, traf_at, moof_part_at, trafs, psshs, moof_at}
 use Rattle.frag_boxes.specs.Gathering.{nothing, first_or, added, moof_added}
 
 abbrev chosen : Option Tfhd → List Tfhd → Option Tfhd
@@ -26,7 +26,7 @@ chosen (Some h) hs = Some h
 abbrev closing : ℕ → TrafParts → List TrafPart → Result Traf FragFault
 closing place s ps =
     required (fault_at place NoTfhd) (chosen s.tfhd (heads ps)) >>= λ tfhd.
-    Ok (record { place = place; tfhd = tfhd; runs = s.runs ++ runs ps; senc = s.senc ++ sencs ps; saiz = s.saiz ++ saizs ps; saio = s.saio ++ saios ps; sgpd = s.sgpd ++ sgpds ps; sbgp = s.sbgp ++ sbgps ps })
+    Ok (record { place = place; tfhd = tfhd; runs = s.runs ++ runs ps; senc = s.senc ++ spans_of (codes "senc") ps; saiz = s.saiz ++ spans_of (codes "saiz") ps; saio = s.saio ++ spans_of (codes "saio") ps; sgpd = s.sgpd ++ spans_of (codes "sgpd") ps; sbgp = s.sbgp ++ spans_of (codes "sbgp") ps })
 
 abbrev pub traf_reader : ℕ → Reader FragFault TrafPart Bool TrafParts Traf
 traf_reader place = record { header = header_fault; read = part_at; learn = head_seen; know = λ s. is_some s.tfhd; add = added; finish = closing place }
@@ -42,21 +42,13 @@ first_chosen (Some g) h hs = refl
 knows : (s : TrafParts) (p : TrafPart) → is_some (added s p).tfhd ≡ head_seen (is_some s.tfhd) p
 knows s (part.Head h) = first_known s.tfhd h
 knows s (part.Run r) = refl
-knows s (part.Senc x) = refl
-knows s (part.Saiz x) = refl
-knows s (part.Saio x) = refl
-knows s (part.Sgpd x) = refl
-knows s (part.Sbgp x) = refl
+knows s (part.Placed k x) = refl
 knows s part.Other = refl
 
 adds : (place : ℕ) (s : TrafParts) (p : TrafPart) (ps : List TrafPart) → closing place s (p ∷ ps) ≡ closing place (added s p) ps
 adds place s (part.Head h) ps = rw (first_chosen s.tfhd h (heads ps)) refl
 adds place s (part.Run r) ps = simp append_assoc
-adds place s (part.Senc x) ps = simp append_assoc
-adds place s (part.Saiz x) ps = simp append_assoc
-adds place s (part.Saio x) ps = simp append_assoc
-adds place s (part.Sgpd x) ps = simp append_assoc
-adds place s (part.Sbgp x) ps = simp append_assoc
+adds place s (part.Placed k x) ps = simp append_assoc
 adds place s part.Other ps = refl
 
 pub traf_gathers : (place : ℕ) → Gathers (traf_reader place)

@@ -1,5 +1,5 @@
 -- A movie and its tracks are gathered box after box.
-use Rattle.std.proofs.Common.{◌≡◌, ℕ, true, List, [], ◌∷◌, ◌++◌, map, length, arith, Option, Some, None, Result, Ok, refl, sym, ◌∙◌, append_assoc}
+use Rattle.std.proofs.Common.{◌≡◌, ℕ, true, List, [], ◌∷◌, ◌++◌, map, Option, Some, None, Result, Ok, refl, ◌∙◌, append_assoc}
 use Rattle.std.specs.Prelude.{is_some}
 use Rattle.std.proofs.lemmas.List.{append-nil}
 use Rattle.iso_boxes.specs.Walk.{Found, Walked, inside}
@@ -122,12 +122,3 @@ mvex_starts b = refl
 
 pub mvex_ends : (s : List TrackTrex) (w : Walked) (total : Result (List TrackTrex) FragFault) → w ≡ record { boxes = []; fault = None } → left mvex_reader s w ≡ total → total ≡ Ok s
 mvex_ends s w total e so_far = ends mvex_reader s w total e so_far ∙ simp append-nil
-
--- ---- a trex for each track
-
-pub mapped_more : {A B : Type 0} (f : A → B) (out : List B) (x : A) (old rest : List A) (total : List B) → old ≡ x ∷ rest → out ++ map f old ≡ total → (out ++ f x ∷ []) ++ map f rest ≡ total
-mapped_more f out x old rest total e so_far = append_assoc out (f x ∷ []) (map f rest) ∙ (rw e at so_far)
-
-pub mapped_end : {A B : Type 0} (f : A → B) (out : List B) (old : List A) (total : List B) → length old ≡ 0 → out ++ map f old ≡ total → out ≡ total
-mapped_end f out [] total e so_far = sym (append-nil out) ∙ so_far
-mapped_end f out (x ∷ xs) total e so_far = absurd (omega arith)

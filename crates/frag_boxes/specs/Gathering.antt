@@ -11,7 +11,8 @@ use Rattle.frag_boxes.specs.declared.table.StblParts.{StblParts}
 use Rattle.frag_boxes.specs.declared.records.Movie.{Movie}
 use Rattle.frag_boxes.specs.declared.records.TrackTrex.{TrackTrex}
 use Rattle.frag_boxes.specs.Moov.{with_trex}
-use Rattle.std.specs.Prelude.{ℕ, map, List, [], ◌∷◌, ◌++◌, Option, Some, None}
+use Rattle.frag_boxes.specs.Moof.{span_if}
+use Rattle.std.specs.Prelude.{ℕ, codes, map, List, [], ◌∷◌, ◌++◌, Option, Some, None}
 use Rattle.frag_boxes.specs.declared.records.Span.{Span}
 use Rattle.frag_boxes.specs.declared.moof.TrafPart.{TrafPart}
 use Rattle.frag_boxes.specs.declared.moof.TrafPart.TheVariants as part
@@ -30,11 +31,13 @@ first_or (Some h) _ = Some h
 abbrev pub added : TrafParts → TrafPart → TrafParts
 added s (part.Head h) = record s { tfhd = first_or s.tfhd h }
 added s (part.Run r) = record s { runs = s.runs ++ r ∷ [] }
-added s (part.Senc x) = record s { senc = s.senc ++ x ∷ [] }
-added s (part.Saiz x) = record s { saiz = s.saiz ++ x ∷ [] }
-added s (part.Saio x) = record s { saio = s.saio ++ x ∷ [] }
-added s (part.Sgpd x) = record s { sgpd = s.sgpd ++ x ∷ [] }
-added s (part.Sbgp x) = record s { sbgp = s.sbgp ++ x ∷ [] }
+added s (part.Placed k x) = record s {
+  senc = s.senc ++ span_if (codes "senc") k x;
+  saiz = s.saiz ++ span_if (codes "saiz") k x;
+  saio = s.saio ++ span_if (codes "saio") k x;
+  sgpd = s.sgpd ++ span_if (codes "sgpd") k x;
+  sbgp = s.sbgp ++ span_if (codes "sbgp") k x;
+}
 added s part.Other = s
 
 abbrev pub moof_added : MoofParts → MoofPart → MoofParts

@@ -6,7 +6,7 @@ use Rattle.std.proofs.lemmas.Bool.{ltb-false}
 use Rattle.std.proofs.lemmas.List.{length-drop, length-append, take-append-drop}
 use Rattle.std.specs.List.{All}
 use Rattle.std.proofs.lemmas.List.Elements.{All-nil, All-cons, All-weaker}
-use Rattle.iso_boxes.specs.Reading.{Reading, goes_on, ◌>>=◌, yield, broken, whole, number, number24, some_bytes, given, all_of, within, repeated, one_each}
+use Rattle.iso_boxes.specs.Reading.{Reading, goes_on, ◌>>=◌, yield, broken, whole, number, number24, signed, some_bytes, given, all_of, within, repeated, one_each}
 use Rattle.iso_boxes.proofs.Repeating.{counted}
 
 -- what is read has at most as many parts as it takes bytes
@@ -48,6 +48,13 @@ pub number24_takes : {E : Type 0} (e : E) → Bounded {E = E} {A = ℕ} nothing 
 number24_takes e = record {
   bound = λ bytes x after h.
       let taken = whole_at (nat_lt (length bytes) 3) 3 _ e bytes x after (ltb-false (length bytes) 3) h in
+      omega (arith, taken);
+}
+
+pub signed_takes : {E : Type 0} (e : E) → Bounded {E = E} nothing (signed e)
+signed_takes e = record {
+  bound = λ bytes x after h.
+      let taken = whole_at (nat_lt (length bytes) 4) 4 _ e bytes x after (ltb-false (length bytes) 4) h in
       omega (arith, taken);
 }
 
@@ -122,6 +129,14 @@ weaker size size' r taken le = record {
 
 pub given_nothing : {E A : Type 0} (b : Bool) (r : Reading E A) → Bounded nothing r → Bounded nothing (given b r)
 given_nothing b r taken = weaker (in_some nothing) nothing (given b r) (given_takes nothing b r taken) (λ o. omega (arith, no_size o))
+
+-- one where a test holds
+abbrev pub one_if : Bool → ℕ
+one_if c = cond c 1 0
+
+pub given_one : {E A : Type 0} (c : Bool) (r : Reading E A) → Bounded one r → Bounded (λ o. one_if c) (given c r)
+given_one true r taken = named_takes one one r (λ x. Some x) taken (λ x. refl)
+given_one false r taken = yield_takes nothing None refl
 
 pub choice_takes : {E A : Type 0} (size : A → ℕ) (c : Bool) (r s : Reading E A) → Bounded size r → Bounded size s → Bounded size (cond c r s)
 choice_takes size true r s p q = p
