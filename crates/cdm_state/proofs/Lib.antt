@@ -12,6 +12,7 @@ pub mod Claiming
 pub mod Legal
 pub mod May
 pub mod Onward
+pub mod Stepped
 pub mod Exact
 pub mod FedOn
 pub mod First

@@ -3,6 +3,8 @@ pub mod History
 pub mod Output
 pub mod Settlements
 pub mod Run
+pub mod Chronicle
+pub mod ChronicleKept
 pub mod Moment
 pub mod Law
 pub mod Slots

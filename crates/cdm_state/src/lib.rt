@@ -2,9 +2,10 @@
 #![tactic(auto)]
 
 mod cdm;
+mod chronicle;
 mod feed;
 mod law;
-mod room;
+mod parts;
 #[cfg(test)]
 mod tests;
 

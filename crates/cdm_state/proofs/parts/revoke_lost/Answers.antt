@@ -5,7 +5,7 @@ use Rattle.key_sessions.specs.LostPair.{pair_of}
 use Rattle.key_claims.specs.TracksState.{ClaimState, TracksState}
 use Rattle.key_claims.specs.Claims.{revoked, revoke_all}
 use Rattle.cdm_state.proofs.Revoking.{revoke_more}
-use Rattle.cdm_state.proofs.room.revoke_lost.Goals as goal
+use Rattle.cdm_state.proofs.parts.revoke_lost.Goals as goal
 
 pub loop-key-preserved : goal.loop-key-preserved
 loop-key-preserved c =
