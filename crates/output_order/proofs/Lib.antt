@@ -5,3 +5,4 @@ pub mod LineReading
 pub mod FedLengths
 pub mod ComingNext
 pub mod OneLog
+pub mod GoingOn
