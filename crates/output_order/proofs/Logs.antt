@@ -12,15 +12,16 @@ use Rattle.cdm_state.specs.History.{world}
 use Rattle.cdm_state.specs.Settlements.{effects_from, effects_in}
 use Rattle.output_order.proofs.Puts.{put_three}
 use Rattle.output_order.specs.Log.{entry_line, effect_lines, fragments_fed, lines_from, log_of}
+use Rattle.output_order.specs.Law.{LogGoesOn}
 
 some_same : {A : Type 0} {a b : A} → Some a ≡ Some b → a ≡ b
 some_same e = cc
 
--- the number of fragments that the entries feed
-abbrev pub fed_from : ℕ → List Entry → ℕ
+-- the number of fragments after these entries, where n were fed before
+abbrev fed_from : ℕ → List Entry → ℕ
 fed_from n h = fold (λ a e. a + fragments_fed e) n h
 
-pub lines_from-append : (w : World) (p n : ℕ) (h g : List Entry) → lines_from w p n (h ++ g) ≡ lines_from w p n h ++ lines_from (fold after_entry w h) (p + length h) (fed_from n h) g
+lines_from-append : (w : World) (p n : ℕ) (h g : List Entry) → lines_from w p n (h ++ g) ≡ lines_from w p n h ++ lines_from (fold after_entry w h) (p + length h) (fed_from n h) g
 lines_from-append w p n [] g = ap (λ k. lines_from w k n g) (let e : p ≡ p + 0 = omega arith in e)
 lines_from-append w p n (x ∷ h) g =
     let v : World = after_entry w x in
@@ -30,10 +31,10 @@ lines_from-append w p n (x ∷ h) g =
     let e : lines_from v (p + 1) m (h ++ g) ≡ lines_from v (p + 1) m h ++ lines_from (fold after_entry v h) (p + suc (length h)) (fed_from m h) g = ih ∙ ap (λ q. lines_from v (p + 1) m h ++ lines_from (fold after_entry v h) q (fed_from m h) g) k in
     ap (λ (t : List ℕ). entry_line p n x ++ (effect_lines (effects_of w x) ++ t)) e ∙ sym (append_assoc (entry_line p n x) (effect_lines (effects_of w x) ++ lines_from v (p + 1) m h) _ ∙ ap (λ (t : List ℕ). entry_line p n x ++ t) (append_assoc (effect_lines (effects_of w x)) (lines_from v (p + 1) m h) _))
 
--- the log of a longer history is the log of its front, and behind it the lines of the further entries
-pub log_more : (ids : List ℕ) (h g : List Entry) → log_of ids (h ++ g) ≡ log_of ids h ++ lines_from (world ids h) (1 + length h) (fed_from 0 h) g
+-- the log of a history that goes on
+pub log_goes_on : LogGoesOn
 unfolding log_of world
-log_more ids h g = lines_from-append (empty_world ids) 1 0 h g
+log_goes_on ids h g = lines_from-append (empty_world ids) 1 0 h g ∙ ap (λ (p : ℕ). log_of ids h ++ lines_from (world ids h) p (fed_from 0 h) g) (let e : 1 + length h ≡ length h + 1 = omega arith in e)
 
 effects_from_at : (w : World) (h : List Entry) (i : ℕ) (d : Entry) → i < length h → slice_get (effects_from w h) i ≡ Some (effects_of (fold after_entry w (take i h)) (get_or h i d))
 effects_from_at w [] i d lt = absurd (omega arith)
