@@ -1,5 +1,6 @@
 pub mod InOrder
 pub mod Passes
+pub mod Known
 pub mod Runs
 pub mod Indices
 pub mod Given

@@ -10,9 +10,9 @@ ghost use Rattle.sample_aux.specs.Counting.{count_fields};
 ghost use Rattle.sample_aux.specs.Auxiliary.{iv_size_of, unless_zero, counted_senc, by_senc, is_of, saiz_of, saio_of, few_sizes, suits_runs, used_saiz, used_saio, by_sizes, by_used, auxiliary_of};
 
 use crate::fault::{AuxFault, AuxKind};
-use crate::groups::Rule;
-use crate::laying::Laying;
-use crate::sample_data::{by_spots, data_spots};
+use crate::groups::SampleProtection;
+use crate::laying::DataCursor;
+use crate::sample_data::{by_ranges, data_ranges};
 use crate::spans::box_at;
 use eme_types::{Items, IvSizes, Scheme};
 use frag_boxes::{Span, Traf};
@@ -45,7 +45,7 @@ pub struct UsedSaio {
 
 // ---- senc
 
-fn iv_size_of(rule: Option<Rule>) -> u8
+fn iv_size_of(rule: Option<SampleProtection>) -> u8
     ensures { result ≡ iv_size_of rule }
 {
     match rule {
@@ -54,7 +54,7 @@ fn iv_size_of(rule: Option<Rule>) -> u8
     }
 }
 
-fn iv_sizes(alloc: Global, rules: &[Option<Rule>]) -> Result<IvSizes, AllocError>
+fn iv_sizes(alloc: Global, rules: &[Option<SampleProtection>]) -> Result<IvSizes, AllocError>
     ensures { IfOk result (λ x. x ≡ map iv_size_of rules.now) }
 {
     let mut sizes = Items::new(alloc);
@@ -99,7 +99,11 @@ fn first_senc<'a>(file: &'a [u8], spans: &[Span]) -> Result<Option<BoxRef<'a>>, 
 }
 
 #[tactic(auto, unfolding(crate::specs::Auxiliary::by_senc))]
-fn by_senc(alloc: Global, rules: &[Option<Rule>], at: &BoxRef<'_>) -> Result<Auxiliary, AuxFault>
+fn by_senc(
+    alloc: Global,
+    rules: &[Option<SampleProtection>],
+    at: &BoxRef<'_>,
+) -> Result<Auxiliary, AuxFault>
     ensures { Gives (λ x. x) result (by_senc rules.now (found at.now)) }
 {
     let sizes = iv_sizes(alloc, rules)?;
@@ -246,14 +250,14 @@ fn by_sizes(
     file: &[u8],
     scheme: Scheme,
     traf: &Traf,
-    base: Laying,
-    rules: &[Option<Rule>],
+    base: DataCursor,
+    rules: &[Option<SampleProtection>],
 ) -> Result<Auxiliary, AuxFault>
     ensures { Gives (λ x. x) result (by_sizes file.now scheme traf.now base.at rules.now) }
 {
     let sizes = used_saiz(alloc, file, scheme, traf, rules.len())?;
     let offsets = used_saio(alloc, file, scheme, traf)?;
-    let spots = data_spots(
+    let ranges = data_ranges(
         alloc,
         &sizes.saiz,
         base,
@@ -261,13 +265,13 @@ fn by_sizes(
         traf.runs.as_slice(),
         rules.len(),
     )?;
-    let items = by_spots(
+    let items = by_ranges(
         alloc,
         file,
         sizes.place,
         offsets.place,
         rules,
-        spots.as_slice(),
+        ranges.as_slice(),
     )?;
     Ok(Auxiliary { senc: None, items })
 }
@@ -279,8 +283,8 @@ pub fn auxiliary_of(
     file: &[u8],
     entry: Option<Sinf>,
     traf: &Traf,
-    base: Laying,
-    rules: &[Option<Rule>],
+    base: DataCursor,
+    rules: &[Option<SampleProtection>],
 ) -> Result<Auxiliary, AuxFault>
     ensures { Gives (λ x. x) result (auxiliary_of file.now entry traf.now base.at rules.now) }
 {

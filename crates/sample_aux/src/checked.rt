@@ -3,13 +3,12 @@ ghost use Rattle.std.specs.Prelude.{◌≡◌, ◌+◌, ◌<◌, ◌^◌, length
 ghost use Rattle.iso_boxes.specs.Walk.{found};
 ghost use Rattle.sample_aux.specs.Faults.{Gives};
 ghost use Rattle.sample_aux.specs.Spans.{boxes_at, first_given};
-ghost use Rattle.sample_aux.specs.InOrder.{each_passes};
-ghost use Rattle.sample_aux.specs.Checked.{passed_over, known_sinf, entry_protection, told_groups, groups_in, entry_passes, track_passes, movie_passes};
+ghost use Rattle.sample_aux.specs.Checked.{passed_over, known_sinf, entry_protection, told_groups, groups_in};
 
 use crate::fault::{AuxFault, AuxKind};
 use crate::spans::box_at;
 use eme_types::Items;
-use frag_boxes::{Movie, MovieTrack, SampleEntry, Span};
+use frag_boxes::{SampleEntry, Span};
 use iso_boxes::BoxRef;
 use prot_boxes::{ProtFault, ProtKind, Seigs, Sgpd, Sinf, read_sgpd, read_sinf};
 use std::alloc::Global;
@@ -91,47 +90,4 @@ pub fn groups_in(alloc: Global, file: &[u8], spans: &[Span]) -> Result<Seigs, Au
         Some(groups) => Ok(groups.entries),
         None => Ok(Items::new(alloc)),
     }
-}
-
-fn check_entry(file: &[u8], entry: &SampleEntry) -> Result<(), AuxFault>
-    ensures { Gives (λ x. x) result (entry_passes file.now entry.now) }
-{
-    let _used = entry_protection(file, entry)?;
-    Ok(())
-}
-
-fn check_entries(file: &[u8], entries: &[SampleEntry]) -> Result<(), AuxFault>
-    ensures { Gives (λ x. x) result (each_passes (λ entry. entry_passes file.now entry) entries.now) }
-{
-    for entry in entries {
-        check_entry(file, entry)?;
-    }
-    Ok(())
-}
-
-#[tactic(auto, unfolding(crate::specs::Checked::track_passes))]
-fn check_track(alloc: Global, file: &[u8], track: &MovieTrack) -> Result<(), AuxFault>
-    ensures { Gives (λ x. x) result (track_passes file.now track.now) }
-{
-    check_entries(file, track.entries.as_slice())?;
-    let _groups = groups_in(alloc, file, track.groups.as_slice())?;
-    Ok(())
-}
-
-fn check_tracks(alloc: Global, file: &[u8], tracks: &[MovieTrack]) -> Result<(), AuxFault>
-    ensures { Gives (λ x. x) result (each_passes (λ track. track_passes file.now track) tracks.now) }
-{
-    for track in tracks {
-        check_track(alloc, file, track)?;
-    }
-    Ok(())
-}
-
-/// Reads, for each track in order, the `sinf` boxes of its sample entries and then its group descriptions
-/// (ISO/IEC 14496-12 sections 8.12 and 8.9.3).
-#[tactic(auto, unfolding(crate::specs::Checked::movie_passes))]
-pub fn check_movie(alloc: Global, file: &[u8], movie: &Movie) -> Result<(), AuxFault>
-    ensures exact { Gives (λ x. x) result (movie_passes file.now movie.now) }
-{
-    check_tracks(alloc, file, movie.tracks.as_slice())
 }

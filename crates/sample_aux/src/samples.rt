@@ -6,8 +6,8 @@ ghost use Rattle.sample_aux.specs.Resolve.{iv_of, protect_of, item_of, place_of,
 
 use crate::auxiliary::auxiliary_of;
 use crate::fault::{AuxFault, AuxKind};
-use crate::groups::{Protection, Rule};
-use crate::laying::{Laying, Spot};
+use crate::groups::{Protection, SampleProtection};
+use crate::laying::{DataCursor, SampleRange};
 use crate::sample_data::rule_of;
 use crate::spans::part_of;
 use eme_types::{Bytes, Copies, EncSample, Items, Iv, KeyId, Protect, Samples};
@@ -37,7 +37,7 @@ fn key_id(alloc: Global, kid: [u8; 16]) -> Result<KeyId, AllocError>
 fn protect_of(
     alloc: Global,
     place: u64,
-    rule: Option<Rule>,
+    rule: Option<SampleProtection>,
     item: SencItem,
 ) -> Result<Option<Protect>, AuxFault>
     ensures { Gives (λ x. x) result (protect_of place rule item) }
@@ -78,12 +78,12 @@ fn item_of(alloc: Global, items: &[SencItem], k: usize) -> Result<SencItem, Allo
     }
 }
 
-fn place_of(spots: &[Spot], k: usize) -> Spot
-    ensures { result ≡ place_of spots.now k }
+fn place_of(ranges: &[SampleRange], k: usize) -> SampleRange
+    ensures { result ≡ place_of ranges.now k }
 {
-    match spots.get(k) {
-        Some(spot) => *spot,
-        None => Spot { place: 0, size: 0 },
+    match ranges.get(k) {
+        Some(range) => *range,
+        None => SampleRange { place: 0, size: 0 },
     }
 }
 
@@ -92,14 +92,14 @@ fn sample_at(
     alloc: Global,
     file: &[u8],
     place: u64,
-    spot: Spot,
-    rule: Option<Rule>,
+    range: SampleRange,
+    rule: Option<SampleProtection>,
     item: SencItem,
 ) -> Result<EncSample, AuxFault>
-    ensures { Gives (λ x. x) result (sample_at file.now place spot rule item) }
+    ensures { Gives (λ x. x) result (sample_at file.now place range rule item) }
 {
     let protect = protect_of(alloc, place, rule, item)?;
-    let bytes = Bytes::from_slice(alloc, part_of(file, spot.place, u64::from(spot.size)))?;
+    let bytes = Bytes::from_slice(alloc, part_of(file, range.place, u64::from(range.size)))?;
     Ok(EncSample { protect, bytes })
 }
 
@@ -108,18 +108,18 @@ fn samples_at(
     alloc: Global,
     file: &[u8],
     place: u64,
-    spots: &[Spot],
-    rules: &[Option<Rule>],
+    ranges: &[SampleRange],
+    rules: &[Option<SampleProtection>],
     items: &[SencItem],
 ) -> Result<Samples, AuxFault>
-    ensures { Gives (λ x. x) result (samples_at file.now place spots.now rules.now items.now) }
+    ensures { Gives (λ x. x) result (samples_at file.now place ranges.now rules.now items.now) }
 {
     let mut samples = Items::new(alloc);
-    for k in 0..spots.len() {
-        let spot = place_of(spots, k);
+    for k in 0..ranges.len() {
+        let range = place_of(ranges, k);
         let rule = rule_of(rules, k);
         let item = item_of(alloc, items, k)?;
-        let sample = sample_at(alloc, file, place, spot, rule, item)?;
+        let sample = sample_at(alloc, file, place, range, rule, item)?;
         samples.push(sample)?;
     }
     Ok(samples)
@@ -171,11 +171,11 @@ pub fn samples_of(
     alloc: Global,
     file: &[u8],
     traf: &Traf,
-    base: Laying,
-    spots: &[Spot],
+    base: DataCursor,
+    ranges: &[SampleRange],
     protection: &Protection,
 ) -> Result<Samples, AuxFault>
-    ensures { Gives (λ x. x) result (samples_of file.now traf.now base.at spots.now protection.now) }
+    ensures { Gives (λ x. x) result (samples_of file.now traf.now base.at ranges.now protection.now) }
 {
     let rules = protection.rules.as_slice();
     let auxiliary = auxiliary_of(alloc, file, protection.entry, traf, base, rules)?;
@@ -183,7 +183,7 @@ pub fn samples_of(
         alloc,
         file,
         traf.place,
-        spots,
+        ranges,
         rules,
         auxiliary.items.as_slice(),
     )?;

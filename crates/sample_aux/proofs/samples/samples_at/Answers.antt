@@ -8,18 +8,18 @@ use Rattle.sample_aux.proofs.samples.samples_at.Goals as goal
 pub returns-in_err-sample : goal.returns-in_err-sample
 returns-in_err-sample c =
     let p = err_from_is_err_and c.from_residual-in_err-sample.result c.from_residual-in_err-sample.ensures.1 in
-    let read = λ (none : Unit {0}) (k : ℕ). sample_at c.args.file.now c.args.place (place_of c.args.spots.now k) (rule_of c.args.rules.now k) (item_of c.args.items.now k) in
+    let read = λ (none : Unit {0}) (k : ℕ). sample_at c.args.file.now c.args.place (place_of c.args.ranges.now k) (rule_of c.args.rules.now k) (item_of c.args.items.now k) in
     rw (p.1, p.2) (elim c.in_err-sample.ensures [
       | inl m ↦ inl m
-      | inr e ↦ inr (broken_off read (λ none x. tt) c.loop-k.samples tt c.loop-k.k (length c.args.spots.now) c.in_err-sample.field-0.0 _ c.loop-k-test.true (rw (c.place_of-spot.ensures, c.rule_of-rule.ensures, c.in_ok-item.ensures) at e) c.loop-k.invariant)
+      | inr e ↦ inr (broken_off read (λ none x. tt) c.loop-k.samples tt c.loop-k.k (length c.args.ranges.now) c.in_err-sample.field-0.0 _ c.loop-k-test.true (rw (c.place_of-range.ensures, c.rule_of-rule.ensures, c.in_ok-item.ensures) at e) c.loop-k.invariant)
     ])
 
 pub loop-k-preserved : goal.loop-k-preserved
 loop-k-preserved c =
-    let read = λ (none : Unit {0}) (k : ℕ). sample_at c.args.file.now c.args.place (place_of c.args.spots.now k) (rule_of c.args.rules.now k) (item_of c.args.items.now k) in
-    rw c.in_ok-push.ensures.ok (one_more read (λ none x. tt) c.loop-k.samples tt c.loop-k.k (length c.args.spots.now) c.in_ok-sample.sample _ c.loop-k-test.true (rw (c.place_of-spot.ensures, c.rule_of-rule.ensures, c.in_ok-item.ensures) at c.in_ok-sample.ensures) c.loop-k.invariant)
+    let read = λ (none : Unit {0}) (k : ℕ). sample_at c.args.file.now c.args.place (place_of c.args.ranges.now k) (rule_of c.args.rules.now k) (item_of c.args.items.now k) in
+    rw c.in_ok-push.ensures.ok (one_more read (λ none x. tt) c.loop-k.samples tt c.loop-k.k (length c.args.ranges.now) c.in_ok-sample.sample _ c.loop-k-test.true (rw (c.place_of-range.ensures, c.rule_of-rule.ensures, c.in_ok-item.ensures) at c.in_ok-sample.ensures) c.loop-k.invariant)
 
 pub returns : goal.returns
 returns c =
-    let read = λ (none : Unit {0}) (k : ℕ). sample_at c.args.file.now c.args.place (place_of c.args.spots.now k) (rule_of c.args.rules.now k) (item_of c.args.items.now k) in
-    finished read (λ none x. tt) c.loop-k.samples tt c.loop-k.k (length c.args.spots.now) _ c.loop-k-test.false c.loop-k.invariant
+    let read = λ (none : Unit {0}) (k : ℕ). sample_at c.args.file.now c.args.place (place_of c.args.ranges.now k) (rule_of c.args.rules.now k) (item_of c.args.items.now k) in
+    finished read (λ none x. tt) c.loop-k.samples tt c.loop-k.k (length c.args.ranges.now) _ c.loop-k-test.false c.loop-k.invariant

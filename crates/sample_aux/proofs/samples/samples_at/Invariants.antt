@@ -6,4 +6,4 @@ use Rattle.sample_aux.proofs.InOrder.{with_front}
 use Rattle.sample_aux.proofs.samples.samples_at.Given as goal
 
 abbrev pub invariant-loop-k : goal.invariant-loop-k
-invariant-loop-k l = with_front l.samples (in_order (λ (none : Unit {0}) k. sample_at l.file l.place (place_of l.spots k) (rule_of l.rules k) (item_of l.items k)) (λ none x. tt) tt l.k (length l.spots - l.k)) ≡ samples_at l.file l.place l.spots l.rules l.items
+invariant-loop-k l = with_front l.samples (in_order (λ (none : Unit {0}) k. sample_at l.file l.place (place_of l.ranges k) (rule_of l.rules k) (item_of l.items k)) (λ none x. tt) tt l.k (length l.ranges - l.k)) ≡ samples_at l.file l.place l.ranges l.rules l.items
