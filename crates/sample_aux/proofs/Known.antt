@@ -1,13 +1,12 @@
 -- What was read of a movie says the same as its boxes.
-use Rattle.std.proofs.Common.{◌≡◌, ℕ, List, [], ◌∷◌, map, Result, Ok, Err, refl, ap, ◌∙◌, sym}
-use Rattle.iso_boxes.specs.Children.{◌>>=◌}
+use Rattle.std.proofs.Common.{◌≡◌, ℕ, List, [], ◌∷◌, map, Result, refl, ap}
 use Rattle.frag_boxes.specs.declared.records.MovieTrack.{MovieTrack}
 use Rattle.frag_boxes.specs.declared.records.Movie.{Movie}
 use Rattle.frag_boxes.specs.Tracks.{track_id}
 use Rattle.sample_aux.specs.declared.fault.AuxFault.{AuxFault}
 use Rattle.sample_aux.specs.declared.protection.TrackProtection.{TrackProtection}
 use Rattle.sample_aux.specs.InOrder.{each_passes}
-use Rattle.sample_aux.specs.Checked.{entry_protection, groups_in, entry_passes, track_passes, movie_passes, track_protection, movie_protection, part_passes, protection_passes}
+use Rattle.sample_aux.specs.Checked.{entry_protection, entry_passes, track_passes, movie_passes, track_protection, movie_protection, part_passes, protection_passes}
 
 passes_of : {A B : Type 0} (p : B → Result (Unit {0}) AuxFault) (q : A → Result (Unit {0}) AuxFault) (g : A → B) → ((x : A) → p (g x) ≡ q x) → (xs : List A) → each_passes p (map g xs) ≡ each_passes q xs
 unfolding each_passes

@@ -34,16 +34,16 @@ abbrev pub iv_size_of : Option SampleProtection → ℕ
 iv_size_of None = 0
 iv_size_of (Some r) = r.group.iv_size
 
-abbrev pub unless_zero : Found → ℕ → Option Found
-unless_zero b count = if count == 0 then None else Some b
-
--- a senc whose count is 0 counts as absent
-unfoldable pub counted_senc : Found → Result (Option Found) AuxFault
-counted_senc b = told (placed (prot_fault_at b.place) (count_fields b.body)) >>= λ count. Ok (unless_zero b count)
-
 -- what a senc says of each sample
 unfoldable pub by_senc : List (Option SampleProtection) → Found → Result Auxiliary AuxFault
 by_senc rules b = told (senc_at (map iv_size_of rules) b) >>= λ senc. Ok (record { senc = Some b.place; items = senc.items })
+
+abbrev pub unless_zero : ℕ → Result Auxiliary AuxFault → Result (Option Auxiliary) AuxFault
+unless_zero count read = if count == 0 then Ok None else (read >>= λ x. Ok (Some x))
+
+-- a senc whose count is 0 counts as absent
+unfoldable pub senc_of : List (Option SampleProtection) → Found → Result (Option Auxiliary) AuxFault
+senc_of rules b = told (placed (prot_fault_at b.place) (count_fields b.body)) >>= λ count. unless_zero count (by_senc rules b)
 
 -- ---- saiz and saio: the used boxes
 
@@ -147,11 +147,11 @@ by_sizes file scheme traf base rules = do
 abbrev pub no_data : Auxiliary
 no_data = record { senc = None; items = [] }
 
-abbrev pub by_used : List ℕ → Sinf → Traf → ℤ → List (Option SampleProtection) → Option Found → Result Auxiliary AuxFault
-by_used file entry traf base rules (Some b) = by_senc rules b
+abbrev pub by_used : List ℕ → Sinf → Traf → ℤ → List (Option SampleProtection) → Option Auxiliary → Result Auxiliary AuxFault
+by_used file entry traf base rules (Some auxiliary) = Ok auxiliary
 by_used file entry traf base rules None = if length traf.saiz == 0 then Ok no_data else by_sizes file entry.scheme traf base rules
 
 -- the first senc whose count is not 0, else saiz and saio, else nothing; on a clear sample entry none of it is looked at
 unfoldable pub auxiliary_of : List ℕ → Option Sinf → Traf → ℤ → List (Option SampleProtection) → Result Auxiliary AuxFault
 auxiliary_of file None traf base rules = Ok no_data
-auxiliary_of file (Some entry) traf base rules = first_given counted_senc (boxes_at file traf.senc) >>= by_used file entry traf base rules
+auxiliary_of file (Some entry) traf base rules = first_given (senc_of rules) (boxes_at file traf.senc) >>= by_used file entry traf base rules

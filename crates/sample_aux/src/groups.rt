@@ -1,14 +1,12 @@
 // The group of each sample, and what protects it.
 ghost use Rattle.std.specs.Prelude.{◌≡◌, ℕ, ◌+◌, ◌<◌, ◌^◌, ◌-◌, ◌≤◌, length};
-ghost use Rattle.iso_boxes.specs.Walk.{found};
 ghost use Rattle.sample_aux.specs.Faults.{Gives};
-ghost use Rattle.sample_aux.specs.Spans.{boxes_at, first_given};
 ghost use Rattle.sample_aux.specs.Checked.{groups_in};
 ghost use Rattle.sample_aux.specs.Groups.{index_at, group_of, fields_of, if_protected, entry_rule, group_rule, rule_at, rules_at, with_place, grouping_at, grouping_in, or_ungrouped, both, IsEarlier, movie_groups, protection_of};
 
 use crate::checked::groups_in;
 use crate::fault::{AuxFault, AuxKind};
-use crate::spans::box_at;
+use crate::first::{BoxReader, first_given};
 use eme_types::{Items, Scheme};
 use frag_boxes::{Span, Traf};
 use iso_boxes::BoxRef;
@@ -183,16 +181,23 @@ fn rules_at(
     Ok(rules)
 }
 
-#[tactic(auto, unfolding(crate::specs::Groups::grouping_at))]
-fn grouping_at(alloc: Global, at: &BoxRef<'_>) -> Result<Option<Grouping>, AuxFault>
-    ensures { Gives (λ x. x) result (grouping_at (found at.now)) }
-{
-    match read_sbgp(alloc, at)? {
-        None => Ok(None),
-        Some(sbgp) => Ok(Some(Grouping {
-            place: at.place,
-            items: sbgp.entries,
-        })),
+#[derive(Clone, Copy)]
+struct SbgpReader;
+
+impl BoxReader for SbgpReader {
+    type Given = Grouping;
+
+    ghost gives = { λ r b. grouping_at b };
+
+    #[tactic(auto, unfolding(crate::specs::Groups::grouping_at))]
+    fn read(&self, alloc: Global, at: &BoxRef<'_>) -> Result<Option<Grouping>, AuxFault> {
+        match read_sbgp(alloc, at)? {
+            None => Ok(None),
+            Some(sbgp) => Ok(Some(Grouping {
+                place: at.place,
+                items: sbgp.entries,
+            })),
+        }
     }
 }
 
@@ -200,19 +205,7 @@ fn grouping_at(alloc: Global, at: &BoxRef<'_>) -> Result<Option<Grouping>, AuxFa
 fn grouping_in(alloc: Global, file: &[u8], spans: &[Span]) -> Result<Option<Grouping>, AuxFault>
     ensures { Gives (λ x. x) result (grouping_in file.now spans.now) }
 {
-    first_grouping(alloc, file, spans)
-}
-
-fn first_grouping(alloc: Global, file: &[u8], spans: &[Span]) -> Result<Option<Grouping>, AuxFault>
-    ensures { Gives (λ x. x) result (first_given grouping_at (boxes_at file.now spans.now)) }
-{
-    for span in spans {
-        let given = grouping_at(alloc, &box_at(file, span))?;
-        if given.is_some() {
-            return Ok(given);
-        }
-    }
-    Ok(None)
+    first_given(alloc, file, spans, &SbgpReader)
 }
 
 /// Of two refusals the one that stands first in the file; want of memory before both.

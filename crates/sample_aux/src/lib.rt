@@ -4,6 +4,7 @@
 mod auxiliary;
 mod checked;
 mod fault;
+mod first;
 mod fragment;
 mod groups;
 mod inits;

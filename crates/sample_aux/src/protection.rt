@@ -43,10 +43,14 @@ fn settled<T>(told: Result<T, AuxFault>) -> Result<Result<T, AuxFault>, AuxFault
     }
 }
 
-fn read_entry(file: &[u8], entry: &SampleEntry) -> Result<Result<Option<Sinf>, AuxFault>, AuxFault>
+fn read_entry(
+    alloc: Global,
+    file: &[u8],
+    entry: &SampleEntry,
+) -> Result<Result<Option<Sinf>, AuxFault>, AuxFault>
     ensures { Gives (λ x. x) result (Ok (entry_protection file.now entry.now)) }
 {
-    settled(entry_protection(file, entry))
+    settled(entry_protection(alloc, file, entry))
 }
 
 fn read_entries(
@@ -58,7 +62,7 @@ fn read_entries(
 {
     let mut told = Items::new(alloc);
     for entry in entries {
-        let one = read_entry(file, entry)?;
+        let one = read_entry(alloc, file, entry)?;
         told.push(one)?;
     }
     Ok(told)

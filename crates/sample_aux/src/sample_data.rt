@@ -1,8 +1,5 @@
 // The auxiliary data of one sample, and where it stands.
 ghost use Rattle.std.specs.Prelude.{◌≡◌, pos, ◌+ℤ◌, ◌+◌, ◌-◌, IfOk};
-ghost use Rattle.iso_boxes.specs.Reading.{repeated};
-ghost use Rattle.prot_boxes.specs.Answers.{Reads as ReadsKind, Gives as GivesKind};
-ghost use Rattle.prot_boxes.specs.Senc.{iv_fields, sub, counted_subs, subs_if, item};
 ghost use Rattle.sample_aux.specs.declared.fault.AuxKind.TheVariants.{AuxSize};
 ghost use Rattle.sample_aux.specs.Faults.{fault_at, Gives};
 ghost use Rattle.sample_aux.specs.Auxiliary.{size_at, offset_of, follow, by_run, data_ranges, data_of, data_at, rule_of, range_of, by_ranges};
@@ -11,10 +8,9 @@ use crate::fault::{AuxFault, AuxKind};
 use crate::groups::SampleProtection;
 use crate::laying::{DataCursor, is_outside, moved};
 use crate::spans::part_of;
-use eme_types::{Items, Iv, Sub, Subs};
+use eme_types::Items;
 use frag_boxes::Trun;
-use iso_boxes::{bytes8, bytes16, fields, u16_at, u32_at};
-use prot_boxes::{ProtKind, Saiz, SencItem, SencItems};
+use prot_boxes::{ProtKind, Saiz, SencItem, SencItems, read_senc_item};
 use std::alloc::{AllocError, Global};
 
 /// Where the data of a sample begins, which may be outside the file, and its size in bytes.
@@ -161,69 +157,6 @@ pub fn data_ranges(
 
 // ---- what it says
 
-#[tactic(auto, unfolding(prot_boxes::specs::Seig::eight, prot_boxes::specs::Seig::sixteen))]
-fn read_iv(size: u8, rest: &[u8]) -> Result<(Option<Iv>, &[u8]), ProtKind>
-    ensures { ReadsKind (λ x. (x.0, x.1.now)) result (iv_fields size rest.now) }
-{
-    match size {
-        8 => {
-            fields!(rest, ProtKind::Short; iv: bytes8);
-            Ok((Some(Iv::Eight(iv)), rest))
-        }
-        16 => {
-            fields!(rest, ProtKind::Short; iv: bytes16);
-            Ok((Some(Iv::Sixteen(iv)), rest))
-        }
-        _ => Ok((None, rest)),
-    }
-}
-
-#[tactic(auto, unfolding(prot_boxes::specs::Senc::sub))]
-fn read_sub(rest: &[u8]) -> Result<(Sub, &[u8]), ProtKind>
-    ensures { ReadsKind (λ x. (x.0, x.1.now)) result (sub rest.now) }
-{
-    fields!(rest, ProtKind::Short; clear: u16_at, prot: u32_at);
-    Ok((Sub { clear, prot }, rest))
-}
-
-fn read_subs(alloc: Global, count: u16, bytes: &[u8]) -> Result<(Subs, &[u8]), ProtKind>
-    ensures { GivesKind (λ x. (x.0, x.1.now)) result (repeated count sub bytes.now) }
-{
-    let mut subs = Items::new(alloc);
-    let mut rest = bytes;
-    for _ in 0..count {
-        let (sub, after) = read_sub(rest)?;
-        subs.push(sub)?;
-        rest = after;
-    }
-    Ok((subs, rest))
-}
-
-#[tactic(auto, unfolding(prot_boxes::specs::Senc::counted_subs))]
-fn read_subs_if(alloc: Global, present: bool, rest: &[u8]) -> Result<(Subs, &[u8]), ProtKind>
-    ensures { GivesKind (λ x. (x.0, x.1.now)) result (subs_if present rest.now) }
-{
-    if !present {
-        return Ok((Items::new(alloc), rest));
-    }
-    fields!(rest, ProtKind::Short; count: u16_at);
-    read_subs(alloc, count, rest)
-}
-
-#[tactic(auto, unfolding(prot_boxes::specs::Senc::item))]
-fn read_item(
-    alloc: Global,
-    present: bool,
-    size: u8,
-    rest: &[u8],
-) -> Result<(SencItem, &[u8]), ProtKind>
-    ensures { GivesKind (λ x. (x.0, x.1.now)) result (item present size rest.now) }
-{
-    let (iv, rest) = read_iv(size, rest)?;
-    let (subs, rest) = read_subs_if(alloc, present, rest)?;
-    Ok((SencItem { iv, subs }, rest))
-}
-
 /// The IV alone, or followed by its subsamples; all else is of a wrong size.
 fn data_of(alloc: Global, place: u64, iv_size: u8, bytes: &[u8]) -> Result<SencItem, AuxFault>
     ensures { Gives (λ x. x) result (data_of (fault_at place AuxSize) iv_size bytes.now) }
@@ -232,7 +165,7 @@ fn data_of(alloc: Global, place: u64, iv_size: u8, bytes: &[u8]) -> Result<SencI
         place,
         kind: AuxKind::AuxSize,
     };
-    match read_item(alloc, bytes.len() != iv_size as usize, iv_size, bytes) {
+    match read_senc_item(alloc, bytes.len() != iv_size as usize, iv_size, bytes) {
         Ok((item, rest)) => {
             if rest.is_empty() {
                 Ok(item)
