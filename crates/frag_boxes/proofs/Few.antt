@@ -4,6 +4,7 @@ use Rattle.std.specs.Prelude.{IfOk, nat_lt, ◌==◌, ◌||◌, find, codes, byt
 use Rattle.std.proofs.lemmas.Slice.Eq.{bytes_eq-Decides}
 use Rattle.std.specs.Int.{w8, w32}
 use Rattle.std.proofs.lemmas.List.{length-drop}
+use Rattle.eme_types.specs.declared.limits.TheConstants.{MAX_TRACKS}
 use Rattle.iso_boxes.specs.declared.walk.BoxFault.{BoxFault}
 use Rattle.iso_boxes.specs.Walk.{Found, Walked, inside, walk}
 use Rattle.iso_boxes.specs.Children.{◌>>=◌, each_knowing, if_any, ended, all_read, first_read, required, first, placed}
@@ -326,7 +327,7 @@ moov_size moov_part.Other = 0
 
 moov_small_as : (k : MoovBox) (tracks : List MovieTrack) (b : Found) (p : MoovPart) → moov_part_as k tracks b ≡ Ok p → moov_size p ≤ 1 + length b.body
 moov_small_as moov.Trak tracks b p h =
-    let g = not_else (nat_lt (length tracks) 8) _ _ p h in
+    let g = not_else (nat_lt (length tracks) MAX_TRACKS) _ _ p h in
     let q = then_ok (trak_at tracks b) _ p g in
     let few = trak_few tracks b q.0 q.1 in
     same_size moov_size (moov_part.Track q.0) p _ (omega (arith, few)) cc

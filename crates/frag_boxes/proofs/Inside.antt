@@ -5,6 +5,7 @@ use Rattle.std.specs.List.{All}
 use Rattle.std.proofs.lemmas.Bool.{ltb-false}
 use Rattle.std.proofs.lemmas.List.{length-drop}
 use Rattle.std.proofs.lemmas.List.Elements.{All-nil, All-cons, All-head, All-tail, All-append, All-take, All-map, All-weaker}
+use Rattle.eme_types.specs.declared.limits.TheConstants.{MAX_TRACKS}
 use Rattle.iso_boxes.specs.declared.walk.BoxFault.{BoxFault}
 use Rattle.iso_boxes.specs.Walk.{Found, Walked, LiesIn, inside, walk}
 use Rattle.iso_boxes.specs.Children.{◌>>=◌, each_knowing, all_knowing, if_any, ended, all_read, first_read, required, first, placed}
@@ -299,7 +300,7 @@ MoovLies o moov_part.Other = Unit {0}
 
 moov_part_lies : (o : Found) (k : MoovBox) (tracks : List MovieTrack) (b : Found) (p : MoovPart) → Stands o b → moov_part_as k tracks b ≡ Ok p → MoovLies o p
 moov_part_lies o moov.Trak tracks b p s h =
-    let g = not_else (nat_lt (length tracks) 8) _ _ p h in
+    let g = not_else (nat_lt (length tracks) MAX_TRACKS) _ _ p h in
     let q = then_ok (trak_at tracks b) _ p g in
     carried (MoovLies o) (moov_part.Track q.0) p (trak_lies o tracks b q.0 (body_in o b s) q.1) cc
 moov_part_lies o moov.Mvex tracks b p s h =

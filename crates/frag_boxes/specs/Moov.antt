@@ -1,5 +1,6 @@
 -- A movie, moov (ISO/IEC 14496-12 section 8.2.1): its boxes in file order, each whole; a rule on a missing box at its end.
 use Rattle.std.specs.Prelude.{ℕ, Bool, ◌||◌, true, false, List, [], ◌∷◌, ◌++◌, length, map, nat_lt, Option, Some, None, Result, Ok, Err, codes, bytes_eq, ◌==◌, if◌then◌else◌}
+use Rattle.eme_types.specs.declared.limits.TheConstants.{MAX_TRACKS}
 use Rattle.iso_boxes.specs.Walk.{Found, inside}
 use Rattle.iso_boxes.specs.Children.{◌>>=◌, all_read, all_knowing, required, first, placed}
 use Rattle.frag_boxes.specs.declared.fault.FragKind.TheVariants.{NoTrackId, SecondTrack, TooManyTracks}
@@ -98,10 +99,10 @@ with_trex trexes t = record t { trex = trex_of t.id trexes }
 unfoldable pub moov_box : List ℕ → MoovBox
 moov_box kind = if bytes_eq kind (codes "trak") then moov.Trak else if bytes_eq kind (codes "mvex") then moov.Mvex else if bytes_eq kind (codes "pssh") then moov.Pssh else moov.Other
 
--- a ninth track is refused before anything in it is read
+-- a track past the limit is refused before anything in it is read
 abbrev pub moov_part_as : MoovBox → List MovieTrack → Found → Result MoovPart FragFault
 moov_part_as moov.Trak tracks b =
-    if nat_lt (length tracks) 8 then (trak_at tracks b >>= λ t. Ok (moov_part.Track t)) else Err (fault_at b.place TooManyTracks)
+    if nat_lt (length tracks) MAX_TRACKS then (trak_at tracks b >>= λ t. Ok (moov_part.Track t)) else Err (fault_at b.place TooManyTracks)
 moov_part_as moov.Mvex tracks b = mvex_at b >>= λ trexes. Ok (moov_part.Defaults trexes)
 moov_part_as moov.Pssh tracks b = Ok (moov_part.Pssh (span b))
 moov_part_as moov.Other tracks b = Ok moov_part.Other

@@ -13,7 +13,7 @@ use crate::moof::span_of;
 use crate::reading::{read_tkhd, read_trex};
 use crate::records::{Movie, MovieTrack, MovieTracks, Span, Spans, TrackTrex, TrackTrexes, Trex};
 use crate::table::{Table, mdia_of, table_or_none};
-use eme_types::Items;
+use eme_types::{Items, MAX_TRACKS};
 use iso_boxes::{BoxRef, Boxes};
 use std::alloc::{AllocError, Global};
 
@@ -246,7 +246,7 @@ fn read_moov_part(
 {
     match moov_box(at.kind) {
         MoovBox::Trak => {
-            if tracks.len() < 8 {
+            if tracks.len() < MAX_TRACKS {
                 Ok(MoovPart::Track(trak_of(alloc, tracks, at)?))
             } else {
                 Err(FragFault {
