@@ -1,6 +1,7 @@
 -- What a call of the application does at once (Encrypted Media Extensions sections 3 to 6).
 use Rattle.std.specs.Prelude.{ℕ, ◌+◌, ◌||◌, nat_lt, Bool, true, false, if◌then◌else◌, List, [], ◌∷◌, ◌++◌, length, Option, Some, None, Result, Ok, Err, codes}
 use Rattle.std.specs.Str.{bytes_eq}
+use Rattle.eme_types.specs.declared.limits.TheConstants.{MAX_SESSIONS}
 use Rattle.eme_types.specs.declared.media.InitKind.{InitKind}
 use Rattle.eme_types.specs.declared.media.InitKind.TheVariants.{Cenc, Keyids}
 use Rattle.eme_types.specs.declared.access.Config.{Config}
@@ -50,7 +51,7 @@ add_session label m = record m { sessions = m.sessions ++ new_session label ∷ 
 abbrev pub create_call : List ℕ → List ℕ → Machine → Done
 create_call label kind m =
     if bytes_eq kind (codes "temporary")
-    then (if nat_lt (length m.sessions) 64 then answer_now Resolved (add_session label m) else reject_now Quota m)
+    then (if nat_lt (length m.sessions) MAX_SESSIONS then answer_now Resolved (add_session label m) else reject_now Quota m)
     else reject_now NotSupported m
 
 -- closing or closed

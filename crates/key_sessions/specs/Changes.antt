@@ -1,7 +1,7 @@
 -- What a step changes of a session.
 use Rattle.std.specs.Prelude.{ℕ, ◌+◌, ◌<◌, ◌≡◌, true, map, List, length, slice_index_or, Option, Some, None}
 use Rattle.key_sessions.specs.declared.change.Change.{Change}
-use Rattle.key_sessions.specs.declared.change.Change.TheVariants.{Started, Callable, Closing, Keys, Released, Reported, Over}
+use Rattle.key_sessions.specs.declared.change.Change.TheVariants.{Started, Callable, Closing, Keys, Released, Reported, Closed}
 use Rattle.key_sessions.specs.declared.session.Session.{Session}
 use Rattle.key_sessions.specs.Machine.{SessionState, change_session}
 use Rattle.key_sessions.specs.Calls.{find_from, start_request, start_closing}
@@ -16,7 +16,7 @@ changed Closing s = start_closing s
 changed (Keys table expiration) s = record s { keys = table.keys; expiration = expiration }
 changed Released s = without_keys s
 changed (Reported list) s = record s { reported = list }
-changed (Over list) s = record s { reported = list; closed = true }
+changed (Closed list) s = record s { reported = list; closed = true }
 
 abbrev pub changed_in : List SessionState → ℕ → Option Change → List SessionState
 changed_in sessions n None = sessions

@@ -1,5 +1,6 @@
 -- What the front job does: the parallel part of a session algorithm (Encrypted Media Extensions section 6).
 use Rattle.std.specs.Prelude.{ℕ, if◌then◌else◌, nat_lt, Bool, List, [], ◌∷◌, map, length, Option, Some, None, Result, Ok, Err}
+use Rattle.eme_types.specs.declared.limits.TheConstants.{MAX_SESSION_KIDS}
 use Rattle.eme_types.specs.declared.call.DomError.{DomError}
 use Rattle.eme_types.specs.declared.call.DomError.TheVariants.{TypeFault, NotSupported, Quota}
 use Rattle.clearkey_json.specs.declared.key_set.KeySet.{KeySet}
@@ -42,7 +43,7 @@ found (Some s) = s
 -- a session may know 256 key ids
 abbrev pub grant_set : ℕ → ℕ → KeySet → SessionState → Machine → Machine
 grant_set n p set s m =
-    if nat_lt 256 (length (grant_all s.keys set.keys)) then queue_task (Reject p Quota) m
+    if nat_lt MAX_SESSION_KIDS (length (grant_all s.keys set.keys)) then queue_task (Reject p Quota) m
     else queue_task (UpdateDone n (is_changed_by m.moment s (with_set set s)) p) (with_session n (with_set set) m)
 
 abbrev pub update_job : ℕ → ℕ → Result KeySet KeySetFault → Machine → Machine
