@@ -9,6 +9,7 @@ use Rattle.key_sessions.specs.Jobs.{without_keys}
 use Rattle.key_sessions.specs.Tasks.{made_callable}
 use Rattle.key_sessions.specs.SessionOf.{session_of}
 
+-- a session after a change
 abbrev pub changed : Change → SessionState → SessionState
 changed Started s = start_request s
 changed (Callable id) s = made_callable id s
@@ -18,6 +19,7 @@ changed Released s = without_keys s
 changed (Reported list) s = record s { reported = list }
 changed (Closed list) s = record s { reported = list; closed = true }
 
+-- the sessions after a change of the one with the number, if any is wanted
 abbrev pub changed_in : List SessionState → ℕ → Option Change → List SessionState
 changed_in sessions n None = sessions
 changed_in sessions n (Some change) = change_session sessions n (changed change)

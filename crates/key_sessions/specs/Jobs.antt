@@ -23,6 +23,7 @@ request_error Invalid = TypeFault
 request_error NoKids = NotSupported
 request_error OutOfMemory = TypeFault
 
+-- generateRequest: the request that the data names is queued, or its refusal
 abbrev pub request_job : ℕ → ℕ → Result (List (List ℕ)) InitFault → Machine → Machine
 request_job n p (Ok kids) m = queue_task (RequestDone n kids p) m
 request_job n p (Err fault) m = queue_task (Reject p (request_error fault)) m
@@ -46,16 +47,20 @@ grant_set n p set s m =
     if nat_lt MAX_SESSION_KIDS (length (grant_all s.keys set.keys)) then queue_task (Reject p Quota) m
     else queue_task (UpdateDone n (is_changed_by m.moment s (with_set set s)) p) (with_session n (with_set set) m)
 
+-- update: the keys of the set are granted, or the text is refused
 abbrev pub update_job : ℕ → ℕ → Result KeySet KeySetFault → Machine → Machine
 update_job n p (Ok set) m = grant_set n p set (found (session_at m.sessions n)) m
 update_job n p (Err fault) m = queue_task (Reject p TypeFault) m
 
+-- the session has no key and no expiration
 abbrev pub cleared : SessionState → SessionState
 cleared s = record s { keys = []; expiration = None }
 
+-- the session's ids stay known and released, and it has no expiration
 abbrev pub without_keys : SessionState → SessionState
 without_keys s = record s { keys = map released s.keys; expiration = None }
 
+-- what a job does
 abbrev pub run_job : Job → Machine → Machine
 run_job (Request n kind init p) m = request_job n p (kids_of kind init) m
 run_job (Update n response p) m = update_job n p (key_set response) m

@@ -9,9 +9,11 @@ use Rattle.key_sessions.specs.Owed.{IsOwed}
 use Rattle.key_sessions.specs.Queued.{AreThere}
 use Rattle.key_sessions.specs.SessionsState.{SessionsState}
 
+-- the state of the algorithms that the sessions keep
 abbrev pub machine_of : Inside → Machine
 machine_of c = record { sessions = map session_of c.items.items; jobs = c.jobs.0; tasks = c.tasks.0; promises = c.promises; moment = c.moment; fired = c.fired.0 }
 
+-- what contracts see of the sessions
 abbrev pub state_of : Inside → SessionsState
 state_of c = record { machine = machine_of c; effects = c.last.effects; lost = map pair_of c.last.lost.items; room = c.room }
 
@@ -22,5 +24,6 @@ pub record KeptAs (m : Machine) (room spare : ℕ) : Type 0 where
   pub there : AreThere m
   pub reserved : room ≤ spare
 
+-- what the sessions keep of what they hold
 abbrev pub Kept : Inside → Type 0
 Kept c = KeptAs (machine_of c) c.room c.tasks.1
