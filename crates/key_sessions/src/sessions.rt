@@ -1,5 +1,6 @@
 // The sessions with their queues and promises.
 ghost use Rattle.std.specs.Prelude.{◌≡◌, ◌≤◌, ◌<◌, ◌+◌, ◌-◌, [], map, length, Some, OnOk, OnErr, IfOk, IsErrOf, IsTrue, ◌↔◌, ◌≢◌};
+ghost use Rattle.eme_types.specs.declared.limits.TheConstants.{MAX_SESSIONS};
 ghost use Rattle.task_queue.specs.declared.work.Task.TheVariants.{Fire};
 ghost use Rattle.key_statuses.specs.Picked.{picked};
 ghost use Rattle.key_sessions.specs.SessionsState.{SessionsState, HasStepped};
@@ -8,6 +9,7 @@ ghost use Rattle.key_sessions.specs.Keys.{pick, pick_from};
 ghost use Rattle.key_sessions.specs.SessionOf.{session_of};
 ghost use Rattle.key_sessions.specs.LostPair.{pair_of};
 ghost use Rattle.key_sessions.specs.Owed.{IsOwed};
+ghost use Rattle.key_sessions.specs.Queued.{AreThere};
 ghost use Rattle.key_sessions.specs.World.{is_resume as resume_is, resumes};
 ghost use Rattle.key_sessions.specs.Plans.{MaySettle, settled_by, fired_by};
 ghost use Rattle.key_sessions.specs.Steps.{queue_task};
@@ -73,10 +75,11 @@ impl Sessions {
         }
     }
 
-    /// Each pending promise stands in exactly one queued job or task, and there are at most 64 sessions.
+    /// Each pending promise stands in exactly one queued job or task, whose session is there, and there are at most 64 sessions.
     pub fn keeps(&self)
         ensures owed { IsOwed self.now.machine }
-        ensures few { length self.now.machine.sessions ≤ 64 }
+        ensures few { length self.now.machine.sessions ≤ MAX_SESSIONS }
+        ensures there { AreThere self.now.machine }
     {
         let _ = &self.alloc;
     }
@@ -343,7 +346,7 @@ fn is_resume(task: &Task) -> bool
 }
 
 fn choose_in(sessions: &[Session], moment: u64, kid: &KeyId) -> Option<Pick>
-    requires { length sessions.now ≤ 64 }
+    requires { length sessions.now ≤ MAX_SESSIONS }
     ensures { result ≡ picked (pick_from moment 1 (map session_of sessions.now) kid.now) }
 {
     let mut number = 1;
