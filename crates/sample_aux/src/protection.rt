@@ -2,7 +2,8 @@
 ghost use Rattle.std.specs.Prelude.{◌≡◌, Ok, map, IfOk};
 ghost use Rattle.sample_aux.specs.Faults.{Gives};
 ghost use Rattle.sample_aux.specs.InOrder.{each_passes};
-ghost use Rattle.sample_aux.specs.Checked.{entry_protection, track_protection, movie_protection, part_passes, protection_passes, movie_passes};
+ghost use Rattle.sample_aux.specs.Checked.{entry_protection, track_protection, movie_protection, part_passes, protection_passes, movie_passes, protected_ids};
+ghost use Rattle.frag_boxes.specs.Tracks.{track_ids};
 
 use crate::checked::{entry_protection, groups_in};
 use crate::fault::{AuxFault, AuxKind};
@@ -141,6 +142,7 @@ pub fn read_protection(
 ) -> Result<MovieProtection, AuxFault>
     ensures exact { Gives (λ x. tt) result (movie_passes file.now movie.now) }
     ensures value { IfOk result (λ x. x ≡ movie_protection file.now movie.now) }
+    ensures ids { IfOk result (λ x. protected_ids x ≡ track_ids movie.now) }
 {
     let known = known_protection(alloc, file, movie)?;
     check_tracks(known.tracks.as_slice())?;
