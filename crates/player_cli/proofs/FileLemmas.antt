@@ -39,23 +39,26 @@ files_on old mid started new files i first second distinct lt so others said tel
       reads = cause'.reads ∙ (cause.reads ∙ so.reads);
     }
 
-pub stops_at_start : (old mid new : ShelfState) (files : List FileText) (i : ℕ) → HaveDistinctNames files → i < length files → FilesSoFar old mid files i → OthersKept mid.file new.file (file_at files i).name → new.said ≡ mid.said → StopsAtStart old new files
-stops_at_start old mid new files i distinct lt so others said = record {
+pub stops_at_start : (old mid new : ShelfState) (files : List FileText) (i : ℕ) → HaveDistinctNames files → i < length files → FilesSoFar old mid files i → OthersKept mid.file new.file (file_at files i).name → new.said ≡ mid.said → TellsAlike mid new → StopsAtStart old new files
+stops_at_start old mid new files i distinct lt so others said tells = record {
   n = i;
   within = lt;
   texts = texts_on old mid new files i distinct lt so.texts others;
   others = keeps_on old.file mid.file new.file files i so.others others;
   said = said ∙ so.said;
+  tells = tells_on old mid new so.tells tells;
 }
 
-pub stops_in_text : (old mid started new : ShelfState) (files : List FileText) (i : ℕ) → HaveDistinctNames files → i < length files → FilesSoFar old mid files i → OthersKept mid.file started.file (file_at files i).name → started.said ≡ mid.said → TellsAlike mid started → (IsTrue started.tells_files → HoldsFront (file_at files i).text (new.file (file_at files i).name)) → OthersKept started.file new.file (file_at files i).name → new.said ≡ started.said → StopsInText old new files
-stops_in_text old mid started new files i distinct lt so others said tells front others' said' =
+pub stops_in_text : (old mid started new : ShelfState) (files : List FileText) (i : ℕ) → HaveDistinctNames files → i < length files → FilesSoFar old mid files i → OthersKept mid.file started.file (file_at files i).name → started.said ≡ mid.said → TellsAlike mid started → (IsTrue started.tells_files → HoldsFront (file_at files i).text (new.file (file_at files i).name)) → OthersKept started.file new.file (file_at files i).name → new.said ≡ started.said → TellsAlike started new → StopsInText old new files
+stops_in_text old mid started new files i distinct lt so others said tells front others' said' tells' =
     let all = both_on mid.file started.file new.file (file_at files i).name others others' in
+    let tells-mid = tells_on old mid started so.tells tells in
     record {
       n = i;
       within = lt;
       texts = texts_on old mid new files i distinct lt so.texts all;
-      front = λ told. front (rw (tells_on old mid started so.tells tells).files told);
+      front = λ told. front (rw tells-mid.files told);
       others = keeps_on old.file mid.file new.file files i so.others all;
       said = said' ∙ (said ∙ so.said);
+      tells = tells_on old started new tells-mid tells';
     }

@@ -3,8 +3,7 @@ pub mod Fronts
 pub mod FileLemmas
 pub mod NameLemmas
 pub mod InputLemmas
-pub mod InspectLemmas
-pub mod PlayLemmas
+pub mod EndLemmas
 pub mod Complete
 pub mod HexLemmas
 pub mod NumberLemmas

@@ -1,5 +1,5 @@
 -- The words of the command line.
-use Rattle.std.specs.Prelude.{ℕ, ◌^◌, ◌≡◌, ◌==◌, ◌&&◌, ◌||◌, nat_lt, Bool, false, not, if◌then◌else◌, List, [], ◌∷◌, length, slice_index, codes, Option, Some, None, option_and_then, Result, Ok, Err}
+use Rattle.std.specs.Prelude.{ℕ, ◌^◌, ◌≡◌, ◌==◌, ◌&&◌, ◌||◌, nat_lt, Bool, false, not, if◌then◌else◌, List, [], ◌∷◌, length, slice_index, codes, Option, IsSome, Some, None, unwrap_or, option_and_then, Result, Ok, Err}
 use Rattle.std.specs.Char.{is_ascii_digit}
 use Rattle.std.specs.List.{list_all}
 use Rattle.std.specs.Result.{result_ok}
@@ -24,24 +24,31 @@ pub record Names : Type 0 where
   pub prefix : List ℕ
   pub workers : ℕ
 
--- what the words ask for: one case for each command
+-- what is asked of a command that says a text: one case for each
+pub data Query : Type 0 where
+  -- the text of the media file of this name
+  Inspect : List ℕ → Query
+  -- a licence request for initialization data of this type
+  Request : InitKind → List ℕ → Query
+  -- the play of the demonstration of this number
+  Demo : ℕ → Query
+
+-- what the words ask for
 pub data Asked : Type 0 where
   Play : Names → Asked
-  -- the text of the media file of this name
-  Inspect : List ℕ → Asked
-  -- a licence request for initialization data of this type
-  Request : InitKind → List ℕ → Asked
-  -- the play of the demonstration of this number
-  Demo : ℕ → Asked
+  Tell : Query → Asked
 
+-- a word at this place is bad
 abbrev pub bad_word : ℕ → UsageKind → UsageFault
 bad_word place kind = record { place = place; kind = kind }
 
+-- the empty word
 abbrev pub is_nothing : List ℕ → Bool
 is_nothing word = length word == 0
 
 -- ---- the command `play`
 
+-- no word stands behind the number of workers
 abbrev pub play_over : List (List ℕ) → Option UsageFault
 play_over [] = None
 play_over (word ∷ more) = Some (bad_word 7 ExtraWord)
@@ -56,6 +63,7 @@ abbrev pub play_end : List (List ℕ) → Option UsageFault
 play_end [] = None
 play_end (word ∷ more) = if bytes_eq word (codes "--workers") then play_workers more else Some (bad_word 5 ExtraWord)
 
+-- the words ask for this where nothing is wrong behind them
 abbrev pub with_end : Asked → Option UsageFault → Result Asked UsageFault
 with_end asked None = Ok asked
 with_end asked (Some fault) = Err fault
@@ -64,6 +72,7 @@ with_end asked (Some fault) = Err fault
 abbrev pub is_ending : List ℕ → Bool
 is_ending text = bytes_eq text (codes "log") || (not (is_nothing text) && list_all is_ascii_digit text)
 
+-- it is such an ending
 abbrev pub is_some_ending : Option (List ℕ) → Bool
 is_some_ending None = false
 is_some_ending (Some text) = is_ending text
@@ -72,9 +81,11 @@ is_some_ending (Some text) = is_ending text
 abbrev pub clashes : List ℕ → List ℕ → Bool
 clashes prefix name = is_some_ending (option_and_then (behind (codes ".")) (behind prefix name))
 
+-- the names of a play without workers
 abbrev pub names_with : List ℕ → List ℕ → List ℕ → Names
 names_with script media prefix = record { script = script; media = media; prefix = prefix; workers = 0 }
 
+-- the words from the prefix on
 abbrev pub prefix_words : List ℕ → List ℕ → List (List ℕ) → Result Asked UsageFault
 prefix_words script media [] = Err (bad_word 4 MissingWord)
 prefix_words script media (prefix ∷ more) =
@@ -83,20 +94,24 @@ prefix_words script media (prefix ∷ more) =
     else if clashes prefix media then Err (bad_word 4 NameClash)
     else with_end (Play (names_with script media prefix)) (play_end more)
 
+-- the words from the name of the media file on
 abbrev pub media_words : List ℕ → List (List ℕ) → Result Asked UsageFault
 media_words script [] = Err (bad_word 3 MissingWord)
 media_words script (media ∷ more) = if is_nothing media then Err (bad_word 3 EmptyName) else prefix_words script media more
 
+-- the words behind `play`
 abbrev pub play_words : List (List ℕ) → Result Asked UsageFault
 play_words [] = Err (bad_word 2 MissingWord)
 play_words (script ∷ more) = if is_nothing script then Err (bad_word 2 EmptyName) else media_words script more
 
 -- ---- the command `inspect`
 
+-- no word stands behind the name
 abbrev pub inspect_over : List ℕ → List (List ℕ) → Result Asked UsageFault
-inspect_over media [] = Ok (Inspect media)
+inspect_over media [] = Ok (Tell (Inspect media))
 inspect_over media (word ∷ more) = Err (bad_word 3 ExtraWord)
 
+-- the words behind `inspect`
 abbrev pub inspect_words : List (List ℕ) → Result Asked UsageFault
 inspect_words [] = Err (bad_word 2 MissingWord)
 inspect_words (media ∷ more) = if is_nothing media then Err (bad_word 2 EmptyName) else inspect_over media more
@@ -107,6 +122,7 @@ inspect_words (media ∷ more) = if is_nothing media then Err (bad_word 2 EmptyN
 abbrev pub kind_of : List ℕ → Option InitKind
 kind_of word = if bytes_eq word (codes "cenc") then Some Cenc else (if bytes_eq word (codes "keyids") then Some Keyids else None)
 
+-- no word stands behind the data
 abbrev pub request_over : Asked → List (List ℕ) → Result Asked UsageFault
 request_over asked [] = Ok asked
 request_over asked (word ∷ more) = Err (bad_word 4 ExtraWord)
@@ -115,19 +131,22 @@ request_over asked (word ∷ more) = Err (bad_word 4 ExtraWord)
 unfoldable pub hex_bytes : List ℕ → Option (List ℕ)
 hex_bytes text = result_ok (decode_of text)
 
+-- the words behind the data
 abbrev pub request_bytes : InitKind → Option (List ℕ) → List (List ℕ) → Result Asked UsageFault
 request_bytes kind None more = Err (bad_word 3 BadHex)
-request_bytes kind (Some bytes) more = request_over (Request kind bytes) more
+request_bytes kind (Some bytes) more = request_over (Tell (Request kind bytes)) more
 
 -- the empty word is empty data
 abbrev pub request_hex : InitKind → List (List ℕ) → Result Asked UsageFault
 request_hex kind [] = Err (bad_word 3 MissingWord)
 request_hex kind (word ∷ more) = request_bytes kind (hex_bytes word) more
 
+-- the words behind the type
 abbrev pub request_kind : Option InitKind → List (List ℕ) → Result Asked UsageFault
 request_kind None more = Err (bad_word 2 BadKind)
 request_kind (Some kind) more = request_hex kind more
 
+-- the words behind `request`
 abbrev pub request_words : List (List ℕ) → Result Asked UsageFault
 request_words [] = Err (bad_word 2 MissingWord)
 request_words (word ∷ more) = request_kind (kind_of word) more
@@ -142,14 +161,17 @@ is_number word = not (is_nothing word) && list_all is_ascii_digit word && (lengt
 unfoldable pub number_of : List ℕ → Option ℕ
 number_of word = if is_number word then (if nat_lt (digits_value 10 word) (2 ^ 64) then Some (digits_value 10 word) else None) else None
 
+-- no word stands behind the number
 abbrev pub demo_over : ℕ → List (List ℕ) → Result Asked UsageFault
-demo_over n [] = Ok (Demo n)
+demo_over n [] = Ok (Tell (Demo n))
 demo_over n (word ∷ more) = Err (bad_word 3 ExtraWord)
 
+-- the words behind the number
 abbrev pub demo_number : Option ℕ → List (List ℕ) → Result Asked UsageFault
 demo_number None more = Err (bad_word 2 BadNumber)
 demo_number (Some n) more = demo_over n more
 
+-- the words behind `demo`
 abbrev pub demo_words : List (List ℕ) → Result Asked UsageFault
 demo_words [] = Err (bad_word 2 MissingWord)
 demo_words (word ∷ more) = demo_number (number_of word) more
@@ -172,31 +194,36 @@ command (word ∷ more) = if bytes_eq word (codes "play") then play_words more e
 
 -- ---- what the readers of words give
 
+-- the names that the words of a play give
 abbrev pub names_of : PlayWords → Names
 names_of w = record { script = w.script.now; media = w.media.now; prefix = w.prefix.now; workers = w.workers }
 
+-- the words ask for this play
 abbrev pub IsAsked : Result Asked UsageFault → PlayWords → Type 0
 IsAsked asked w = asked ≡ Ok (Play (names_of w))
 
--- the words ask for a request
-pub record IsRequest (asked : Result Asked UsageFault) : Type 0 where
-  pub kind : InitKind
-  pub bytes : List ℕ
-  pub is : asked ≡ Ok (Request kind bytes)
+-- the bytes of a hexadecimal word, or none
+abbrev pub data_of : List ℕ → List ℕ
+data_of word = unwrap_or (hex_bytes word) []
 
--- they ask for a demonstration
-pub record IsDemo (asked : Result Asked UsageFault) : Type 0 where
-  pub n : ℕ
-  pub is : asked ≡ Ok (Demo n)
+-- what the words of a command ask for that says a text
+abbrev pub query_of : QuietWords → Query
+query_of (ToInspect media) = Inspect media.now
+query_of (ToRequest w) = Request w.kind (data_of w.hex.now)
+query_of (ToDemo n) = Demo n
+
+-- a hexadecimal word among them is one
+abbrev pub HasData : QuietWords → Type 0
+HasData (ToInspect media) = Unit {0}
+HasData (ToRequest w) = IsSome (hex_bytes w.hex.now)
+HasData (ToDemo n) = Unit {0}
 
 -- they ask for a request of that type with the bytes of that word
 pub record IsRequested (asked : Result Asked UsageFault) (w : RequestWords) : Type 0 where
-  pub bytes : List ℕ
-  pub decoded : hex_bytes w.hex.now ≡ Some bytes
-  pub is : asked ≡ Ok (Request w.kind bytes)
+  pub is_data : IsSome (hex_bytes w.hex.now)
+  pub is : asked ≡ Ok (Tell (Request w.kind (data_of w.hex.now)))
 
 -- they ask for what the words of a command say that plays no files
-abbrev pub IsQuiet : Result Asked UsageFault → QuietWords → Type 0
-IsQuiet asked (ToInspect media) = asked ≡ Ok (Inspect media.now)
-IsQuiet asked (ToRequest w) = IsRequested asked w
-IsQuiet asked (ToDemo n) = asked ≡ Ok (Demo n)
+pub record IsQuiet (asked : Result Asked UsageFault) (w : QuietWords) : Type 0 where
+  pub is_data : HasData w
+  pub is : asked ≡ Ok (Tell (query_of w))

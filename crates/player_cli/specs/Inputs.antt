@@ -1,5 +1,6 @@
 -- The script and the media that a command reads.
-use Rattle.std.specs.Prelude.{ℕ, ◌≡◌, ◌≤◌, List, length, IsTrue, Some, Ok, Err}
+use Rattle.std.specs.Prelude.{ℕ, ◌≡◌, ◌≤◌, ◌⊎◌, List, [], ◌∷◌, length, IsTrue, Some, Ok, Err}
+use Rattle.eme_types.specs.declared.limits.TheConstants.{MAX_SCRIPT_BYTES, MAX_MEDIA_BYTES}
 use Rattle.eme_types.specs.declared.media.Media.{Media}
 use Rattle.eme_edge.specs.Shelf.{ShelfState}
 use Rattle.script_lang.specs.declared.script.Line.{Line}
@@ -8,17 +9,13 @@ use Rattle.script_lang.specs.Grammar.{script_of}
 use Rattle.track_media.specs.declared.kind.MediaKind.{MediaKind}
 use Rattle.track_media.specs.declared.kind.MediaFault.TheVariants.{Refused}
 use Rattle.track_media.specs.File.{media_of}
-use Rattle.player_cli.specs.ReadAll.{HasMore, ReadsCause}
-use Rattle.player_cli.specs.declared.outcome.Outcome.{Outcome}
-use Rattle.player_cli.specs.declared.outcome.Outcome.TheVariants.{Played, Done, Usage, ScriptRefused, MediaRefused, TooLarge, ReadFault, WriteFault, OutOfMemory}
-use Rattle.player_cli.specs.declared.outcome.Which.{Which}
-use Rattle.player_cli.specs.declared.outcome.Which.TheVariants.{Script as ScriptFile, Media as MediaFile}
-
-abbrev pub script_limit : ℕ
-script_limit = 1048576
-
-abbrev pub media_limit : ℕ
-media_limit = 67108864
+use Rattle.player_cli.specs.ReadAll.{ReadEnds}
+use Rattle.player_cli.specs.declared.end.ScriptEnd.{ScriptEnd}
+use Rattle.player_cli.specs.declared.end.ScriptEnd.TheVariants as script_end
+use Rattle.player_cli.specs.declared.end.MediaEnd.{MediaEnd}
+use Rattle.player_cli.specs.declared.end.MediaEnd.TheVariants as media_end
+use Rattle.player_cli.specs.declared.end.Refusal.{Refusal}
+use Rattle.player_cli.specs.declared.end.Refusal.TheVariants.{Script as NoScript, Media as NoMedia, OutOfMemory}
 
 -- the file of that name, where the shelf tells it, has these bytes
 abbrev pub Tells : ShelfState → List ℕ → List ℕ → Type 0
@@ -28,7 +25,7 @@ Tells s name bytes = IsTrue s.tells_files → s.file name ≡ Some bytes
 pub record ScriptRead (old : ShelfState) (name : List ℕ) (script : List Line) : Type 0 where
   pub bytes : List ℕ
   pub told : Tells old name bytes
-  pub small : length bytes ≤ script_limit
+  pub small : length bytes ≤ MAX_SCRIPT_BYTES
   pub fits : script_of bytes ≡ Ok script
 
 -- the file was read and is a script
@@ -40,55 +37,88 @@ pub record ReadsScript (old : ShelfState) (name : List ℕ) : Type 0 where
 pub record ScriptFails (old : ShelfState) (name : List ℕ) (line : ℕ) (kind : ScriptKind) : Type 0 where
   pub bytes : List ℕ
   pub told : Tells old name bytes
-  pub small : length bytes ≤ script_limit
+  pub small : length bytes ≤ MAX_SCRIPT_BYTES
   pub refused : script_of bytes ≡ Err (line, kind)
 
 -- the file was read and is this media
 pub record MediaRead (old : ShelfState) (name : List ℕ) (media : Media) : Type 0 where
   pub bytes : List ℕ
   pub told : Tells old name bytes
-  pub small : length bytes ≤ media_limit
+  pub small : length bytes ≤ MAX_MEDIA_BYTES
   pub fits : media_of bytes ≡ Ok media
+
+-- the file was read and is a media
+pub record ReadsMedia (old : ShelfState) (name : List ℕ) : Type 0 where
+  pub media : Media
+  pub read : MediaRead old name media
 
 -- the file was read, and this is its first broken rule with its place
 pub record MediaFails (old : ShelfState) (name : List ℕ) (place : ℕ) (kind : MediaKind) : Type 0 where
   pub bytes : List ℕ
   pub told : Tells old name bytes
-  pub small : length bytes ≤ media_limit
+  pub small : length bytes ≤ MAX_MEDIA_BYTES
   pub refused : media_of bytes ≡ Err (Refused place kind)
 
--- what an outcome says that ends the reading of a file
-abbrev pub ReadingEnds : Outcome → ShelfState → ShelfState → Which → List ℕ → ℕ → Type 0
-ReadingEnds Played old new which name limit = ⊥
-ReadingEnds Done old new which name limit = ⊥
-ReadingEnds (Usage fault) old new which name limit = ⊥
-ReadingEnds (ScriptRefused line kind) old new which name limit = ⊥
-ReadingEnds (MediaRefused place rule) old new which name limit = ⊥
-ReadingEnds (TooLarge which' limit') old new which name limit = (which' ≡ which) × (limit' ≡ limit) × HasMore old name limit
-ReadingEnds ReadFault old new which name limit = ReadsCause old new name
-ReadingEnds WriteFault old new which name limit = ⊥
-ReadingEnds OutOfMemory old new which name limit = Unit {0}
+-- what each end of the reading of a script says
+abbrev pub ScriptEnds : ScriptEnd → ShelfState → ShelfState → List ℕ → Type 0
+ScriptEnds (script_end.Unread end) old new name = ReadEnds end old new name MAX_SCRIPT_BYTES
+ScriptEnds (script_end.Refused line kind) old new name = ScriptFails old name line kind
 
--- what an outcome says that ends the reading of a script
-abbrev pub ScriptEnds : Outcome → ShelfState → ShelfState → List ℕ → Type 0
-ScriptEnds Played old new name = ⊥
-ScriptEnds Done old new name = ⊥
-ScriptEnds (Usage fault) old new name = ⊥
-ScriptEnds (ScriptRefused line kind) old new name = ScriptFails old name line kind
-ScriptEnds (MediaRefused place rule) old new name = ⊥
-ScriptEnds (TooLarge which limit) old new name = (which ≡ ScriptFile) × (limit ≡ script_limit) × HasMore old name script_limit
-ScriptEnds ReadFault old new name = ReadsCause old new name
-ScriptEnds WriteFault old new name = ⊥
-ScriptEnds OutOfMemory old new name = Unit {0}
+-- what each end of the reading of a media file says
+abbrev pub MediaEnds : MediaEnd → ShelfState → ShelfState → List ℕ → Type 0
+MediaEnds (media_end.Unread end) old new name = ReadEnds end old new name MAX_MEDIA_BYTES
+MediaEnds (media_end.Refused place kind) old new name = MediaFails old name place kind
 
--- what an outcome says that ends the reading of a media file
-abbrev pub MediaEnds : Outcome → ShelfState → ShelfState → List ℕ → Type 0
-MediaEnds Played old new name = ⊥
-MediaEnds Done old new name = ⊥
-MediaEnds (Usage fault) old new name = ⊥
-MediaEnds (ScriptRefused line kind) old new name = ⊥
-MediaEnds (MediaRefused place rule) old new name = MediaFails old name place rule
-MediaEnds (TooLarge which limit) old new name = (which ≡ MediaFile) × (limit ≡ media_limit) × HasMore old name media_limit
-MediaEnds ReadFault old new name = ReadsCause old new name
-MediaEnds WriteFault old new name = ⊥
-MediaEnds OutOfMemory old new name = Unit {0}
+-- a file that a command reads, by its name
+pub data Input : Type 0 where
+  ScriptFile : List ℕ → Input
+  MediaFile : List ℕ → Input
+
+-- the file was read, and is what it is to be
+abbrev pub IsTaken : ShelfState → Input → Type 0
+IsTaken s (ScriptFile name) = ReadsScript s name
+IsTaken s (MediaFile name) = ReadsMedia s name
+
+-- the reading of this file has ended the command
+abbrev pub InputEnds : Input → Refusal → ShelfState → ShelfState → Type 0
+InputEnds (ScriptFile name) refusal old new = (end : ScriptEnd) × (refusal ≡ NoScript end) × ScriptEnds end old new name
+InputEnds (MediaFile name) refusal old new = (end : MediaEnd) × (refusal ≡ NoMedia end) × MediaEnds end old new name
+
+-- of the files, read in this order, the first that was not taken has ended the command; where each was taken, memory was missing
+abbrev pub FirstEnds : List Input → Refusal → ShelfState → ShelfState → Type 0
+FirstEnds [] refusal old new = refusal ≡ OutOfMemory
+FirstEnds (input ∷ more) refusal old new = InputEnds input refusal old new ⊎ (IsTaken old input × FirstEnds more refusal old new)
+
+-- where a command reads no file, no file was read
+abbrev pub Unread : List Input → ShelfState → ShelfState → Type 0
+Unread [] old new = new.read_faults ≡ old.read_faults
+Unread (input ∷ more) old new = Unit {0}
+
+-- the shelf tells its files, and this one is there with these bytes, no more than the limit
+pub record HasFile (s : ShelfState) (name : List ℕ) (limit : ℕ) : Type 0 where
+  pub tells : IsTrue s.tells_files
+  pub bytes : List ℕ
+  pub is : s.file name ≡ Some bytes
+  pub small : length bytes ≤ limit
+
+-- the file is a script
+pub record HasScript (s : ShelfState) (name : List ℕ) : Type 0 where
+  pub file : HasFile s name MAX_SCRIPT_BYTES
+  pub script : List Line
+  pub fits : script_of file.bytes ≡ Ok script
+
+-- the file is a media
+pub record HasMedia (s : ShelfState) (name : List ℕ) : Type 0 where
+  pub file : HasFile s name MAX_MEDIA_BYTES
+  pub media : Media
+  pub fits : media_of file.bytes ≡ Ok media
+
+-- the file is in its grammar and limits, on a shelf that tells its files
+abbrev pub HasInput : ShelfState → Input → Type 0
+HasInput s (ScriptFile name) = HasScript s name
+HasInput s (MediaFile name) = HasMedia s name
+
+-- each of the files is
+abbrev pub HasInputs : ShelfState → List Input → Type 0
+HasInputs s [] = Unit {0}
+HasInputs s (input ∷ more) = HasInput s input × HasInputs s more

@@ -3,10 +3,9 @@ pub mod FileText
 pub mod Files
 pub mod ReadAll
 pub mod Inputs
+pub mod Ends
 pub mod Written
-pub mod Said
-pub mod Answered
-pub mod Inspected
-pub mod Shown
+pub mod Told
 pub mod Played
+pub mod Says
 pub mod Faults

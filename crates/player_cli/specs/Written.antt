@@ -1,10 +1,15 @@
 -- Texts on their way into files.
 use Rattle.std.specs.Prelude.{ℕ, ◌≡◌, ◌≢◌, ◌≤◌, ◌<◌, ◌+◌, ◌⊎◌, List, ◌++◌, length, take, IsTrue, Some, Option, Result, IsErrOf}
-use Rattle.eme_edge.specs.Shelf.{ShelfState, Files, OthersKept, TellsAlike, Rose, SaidPart}
+use Rattle.eme_edge.specs.Shelf.{ShelfState, Files, FilesKept, OthersKept, TellsAlike, Rose, SaidPart}
 use Rattle.eme_edge.specs.declared.shelf.ShelfFault.{ShelfFault}
 use Rattle.eme_edge.specs.declared.shelf.ShelfFault.TheVariants.{Failed}
 use Rattle.player_cli.specs.FileText.{FileText}
 use Rattle.player_cli.specs.Files.{file_at}
+
+-- no file has changed and nothing was said
+pub record IsUntouched (old new : ShelfState) : Type 0 where
+  pub files : FilesKept old.file new.file
+  pub said : new.said ≡ old.said
 
 -- the file holds what came before the rest
 pub record IsWriting (old new : ShelfState) (name text rest : List ℕ) : Type 0 where
@@ -51,6 +56,7 @@ pub record StopsAtStart (old new : ShelfState) (files : List FileText) : Type 0 
   pub texts : HasTexts old new files n
   pub others : KeepsOthers old.file new.file files (n + 1)
   pub said : new.said ≡ old.said
+  pub tells : TellsAlike old new
 
 -- an append to file n failed: it holds a front of its text
 pub record StopsInText (old new : ShelfState) (files : List FileText) : Type 0 where
@@ -60,12 +66,14 @@ pub record StopsInText (old new : ShelfState) (files : List FileText) : Type 0 w
   pub front : IsTrue old.tells_files → HoldsFront (file_at files n).text (new.file (file_at files n).name)
   pub others : KeepsOthers old.file new.file files (n + 1)
   pub said : new.said ≡ old.said
+  pub tells : TellsAlike old new
 
 -- all files hold their texts, and a front of the summary was said
 pub record StopsAtSummary (old new : ShelfState) (files : List FileText) (summary : List ℕ) : Type 0 where
   pub texts : HasTexts old new files (length files)
   pub others : KeepsOthers old.file new.file files (length files)
   pub said : IsTrue old.tells_said → SaidPart old.said summary new.said
+  pub tells : TellsAlike old new
 
 -- the writing of these texts has stopped
 abbrev pub IsStopped : ShelfState → ShelfState → List FileText → List ℕ → Type 0
@@ -76,3 +84,4 @@ pub record IsWritten (old new : ShelfState) (files : List FileText) (summary : L
   pub texts : HasTexts old new files (length files)
   pub others : KeepsOthers old.file new.file files (length files)
   pub said : IsTrue old.tells_said → new.said ≡ old.said ++ summary
+  pub tells : TellsAlike old new

@@ -1,23 +1,28 @@
-// The command `inspect`: the text of a media file.
-ghost use Rattle.player_cli.specs.Inspected.{InspectSays};
+// The command `inspect`: what is in a media file, as text.
+ghost use Rattle.std.specs.Prelude.{[], ◌∷◌, IfOk, IfErr};
+ghost use Rattle.player_cli.specs.Inputs.{MediaFile, FirstEnds};
+ghost use Rattle.player_cli.specs.ReadAll.{LeavesShelf};
+ghost use Rattle.player_cli.specs.Told.{IsInspection};
 
+use crate::end::Refusal;
 use crate::inputs::media_in;
-use crate::outcome::Outcome;
-use crate::say::say_text;
 use eme_edge::Shelf;
+use eme_types::Bytes;
 use player_core::inspect_text;
 use std::alloc::Global;
 
-/// Says what is in the media file of that name.
-pub fn inspect_media<S: Shelf>(alloc: Global, name: &str, shelf: &mut S) -> Outcome
-    ensures { InspectSays result (S.state shelf.old) (S.state shelf.new) name.now }
+/// The text of the media file of that name.
+pub fn inspection<S: Shelf>(alloc: Global, name: &str, shelf: &mut S) -> Result<Bytes, Refusal>
+    ensures text { IfOk result (λ text. IsInspection (S.state shelf.old) name.now text) }
+    ensures refused { IfErr result (λ refusal. FirstEnds (MediaFile name.now ∷ []) refusal (S.state shelf.old) (S.state shelf.new)) }
+    ensures shelf { LeavesShelf (S.state shelf.old) (S.state shelf.new) }
 {
     let media = match media_in(alloc, shelf, name) {
         Ok(media) => media,
-        Err(end) => return end,
+        Err(end) => return Err(Refusal::Media(end)),
     };
     let Ok(text) = inspect_text(alloc, &media) else {
-        return Outcome::OutOfMemory;
+        return Err(Refusal::OutOfMemory);
     };
-    say_text(text.as_slice(), shelf)
+    Ok(text)
 }

@@ -2,6 +2,7 @@
 #![tactic(auto)]
 
 mod demo;
+mod end;
 mod fault;
 mod inputs;
 mod inspect;
@@ -10,7 +11,7 @@ mod play;
 mod quiet;
 mod read;
 mod request;
-mod say;
+mod tell;
 #[cfg(test)]
 mod tests;
 mod texts;

@@ -1,46 +1,55 @@
-// A play: both files are read, and what they give is played and written.
-ghost use Rattle.std.specs.Prelude.{◌≡◌, IsTrue};
-ghost use Rattle.eme_types.specs.Fed.{are_distinct};
+// The command `play`: both files are read, and what they give is played and written.
+ghost use Rattle.std.specs.Prelude.{◌≡◌, IfOk};
+ghost use Rattle.eme_types.specs.Fed.{IsFed};
 ghost use Rattle.cdm_state.specs.History.{world, IsLegal, AtRest};
-ghost use Rattle.output_order.specs.Summary.{summary_of};
-ghost use Rattle.player_cli.specs.Files.{files_of};
-ghost use Rattle.player_cli.specs.Played.{PlaySays, EndSays, SettlesEach};
+ghost use Rattle.player_cli.specs.Command.{Play, names_of};
+ghost use Rattle.player_cli.specs.Played.{SettlesEach, ArePlayed};
+ghost use Rattle.player_cli.specs.Says.{EndSays};
 
+use crate::end::{End, Refusal, writing_end};
 use crate::inputs::{media_in, script_in};
-use crate::outcome::Outcome;
-use crate::texts::files_of;
+use crate::texts::{PlayTexts, texts_of};
+use crate::words::PlayWords;
 use crate::write::write_texts;
 use cdm_state::{Cdm, promises_are_settled_once};
-use eme_edge::{Shelf, ShelfFault};
-use output_order::summary_text;
+use eme_edge::Shelf;
+use eme_types::Media;
 use player_core::play_alone;
-use std::alloc::Global;
+use script_lang::Script;
+use std::alloc::{AllocError, Global};
 
 /// Reads the script, then the media, plays them, and writes the texts of the play.
-pub fn play_files<S: Shelf>(
-    alloc: Global,
-    script: &str,
-    media: &str,
-    prefix: &str,
-    workers: u8,
-    shelf: &mut S,
-) -> Outcome
-    requires { workers ≡ 0 }
-    ensures { PlaySays result (S.state shelf.old) (S.state shelf.new) (record { script = script.now; media = media.now; prefix = prefix.now; workers = workers }) }
+pub fn play_files<S: Shelf>(alloc: Global, asked: PlayWords<'_>, shelf: &mut S) -> End
+    requires { asked.workers ≡ 0 }
+    ensures { EndSays result (Play (names_of asked.entry)) (S.state shelf.old) (S.state shelf.new) }
 {
-    let lines = match script_in(alloc, shelf, script) {
-        Ok(lines) => lines,
-        Err(end) => return end,
+    let script = match script_in(alloc, shelf, asked.script) {
+        Ok(script) => script,
+        Err(end) => return End::Refused(Refusal::Script(end)),
     };
-    let samples = match media_in(alloc, shelf, media) {
-        Ok(samples) => samples,
-        Err(end) => return end,
+    let media = match media_in(alloc, shelf, asked.media) {
+        Ok(media) => media,
+        Err(end) => return End::Refused(Refusal::Media(end)),
     };
-    let Ok(cdm) = play_alone(alloc, &lines, samples) else {
-        return Outcome::OutOfMemory;
+    let Ok(texts) = play_texts(alloc, &script, media, asked.prefix) else {
+        return End::Refused(Refusal::OutOfMemory);
     };
+    writing_end(write_texts(shelf, texts.files.as_slice(), texts.summary.as_slice()))
+}
+
+/// The texts of the play of a script and a media file.
+fn play_texts(
+    alloc: Global,
+    script: &Script,
+    media: Media,
+    prefix: &str,
+) -> Result<PlayTexts, AllocError>
+    requires { IsFed media }
+    ensures { IfOk result (λ texts. ArePlayed script.now media prefix.now texts.files.items texts.summary) }
+{
+    let cdm = play_alone(alloc, script, media)?;
     history_laws(&cdm);
-    write_play(alloc, &cdm, prefix, shelf)
+    texts_of(alloc, &cdm, prefix)
 }
 
 /// What the core's laws say of its history: it is legal, and where it ends at rest each promise was settled once.
@@ -50,22 +59,4 @@ fn history_laws(cdm: &Cdm)
 {
     let _history = cdm.history();
     promises_are_settled_once();
-}
-
-/// Writes the log, the file of each track, and says the summary.
-fn write_play<S: Shelf>(alloc: Global, cdm: &Cdm, prefix: &str, shelf: &mut S) -> Outcome
-    requires { IsTrue (are_distinct cdm.now.tracks) }
-    ensures { EndSays result (S.state shelf.old) (S.state shelf.new) (files_of prefix.now cdm.now.tracks cdm.now.history) (summary_of cdm.now.tracks cdm.now.history) }
-{
-    let Ok(files) = files_of(alloc, cdm, prefix) else {
-        return Outcome::OutOfMemory;
-    };
-    let Ok(summary) = summary_text(alloc, cdm) else {
-        return Outcome::OutOfMemory;
-    };
-    match write_texts(shelf, files.as_slice(), summary.as_slice()) {
-        Ok(()) => Outcome::Played,
-        Err(ShelfFault::Failed) => Outcome::WriteFault,
-        Err(ShelfFault::OutOfMemory) => Outcome::OutOfMemory,
-    }
 }

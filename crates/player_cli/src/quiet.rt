@@ -2,7 +2,7 @@
 ghost use Rattle.std.specs.Prelude.{◌≡◌, map, string_bytes, is_some, MatchResult, Ok, Err};
 ghost use Rattle.std.specs.List.{list_all};
 ghost use Rattle.hex.specs.Hex.{is_hex_digit};
-ghost use Rattle.player_cli.specs.Command.{quiet_command, inspect_words, request_words, demo_words, kind_of, hex_bytes, is_number, number_of, Inspect, Demo, IsRequested, IsQuiet};
+ghost use Rattle.player_cli.specs.Command.{quiet_command, inspect_words, request_words, demo_words, kind_of, hex_bytes, is_number, number_of, Tell, Inspect, Demo, IsRequested, IsQuiet};
 
 use crate::outcome::{UsageFault, UsageKind};
 use crate::words::{all_decimal, bad_word, next_word};
@@ -90,7 +90,7 @@ pub fn read_quiet(words: &[String]) -> Result<QuietWords<'_>, UsageFault>
 
 /// The name of the media file.
 fn read_inspect(words: &[String]) -> Result<&str, UsageFault>
-    ensures { MatchResult result (λ media. inspect_words (map string_bytes words.now) ≡ Ok (Inspect media.now)) (λ e. inspect_words (map string_bytes words.now) ≡ Err e) }
+    ensures { MatchResult result (λ media. inspect_words (map string_bytes words.now) ≡ Ok (Tell (Inspect media.now))) (λ e. inspect_words (map string_bytes words.now) ≡ Err e) }
 {
     let Some((media, rest)) = next_word(words) else {
         return Err(bad_word(2, UsageKind::MissingWord));
@@ -127,7 +127,7 @@ fn read_request(words: &[String]) -> Result<RequestWords<'_>, UsageFault>
 
 /// The number of the demonstration.
 fn read_demo(words: &[String]) -> Result<u64, UsageFault>
-    ensures { MatchResult result (λ n. demo_words (map string_bytes words.now) ≡ Ok (Demo n)) (λ e. demo_words (map string_bytes words.now) ≡ Err e) }
+    ensures { MatchResult result (λ n. demo_words (map string_bytes words.now) ≡ Ok (Tell (Demo n))) (λ e. demo_words (map string_bytes words.now) ≡ Err e) }
 {
     let Some((word, rest)) = next_word(words) else {
         return Err(bad_word(2, UsageKind::MissingWord));

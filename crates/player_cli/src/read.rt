@@ -1,6 +1,6 @@
 // A whole file, up to a limit.
-ghost use Rattle.std.specs.Prelude.{◌≡◌, ◌≤◌, ◌<◌, ◌^◌, length, IsTrue, IfOk, Some, Err};
-ghost use Rattle.player_cli.specs.ReadAll.{LeavesShelf, HasMore, ReadsCause, EndsAs};
+ghost use Rattle.std.specs.Prelude.{◌≡◌, ◌≤◌, ◌<◌, ◌^◌, length, IsTrue, IfOk, IfErr, Some};
+ghost use Rattle.player_cli.specs.ReadAll.{LeavesShelf, ReadEnds, end_of};
 
 use eme_edge::{Shelf, ShelfFault};
 use eme_types::Bytes;
@@ -8,15 +8,18 @@ use std::alloc::Global;
 
 const PIECE: usize = 4096;
 
+/// Why a file was not read.
 #[derive(Clone, Copy, Debug, PartialEq, Eq)]
 pub enum ReadEnd {
+    /// The file has more bytes than the limit.
     TooLarge,
+    /// A read failed, or the file is not there.
     Fault,
     OutOfMemory,
 }
 
 fn end_of(fault: ShelfFault) -> ReadEnd
-    ensures { EndsAs fault result }
+    ensures { result ≡ end_of fault }
 {
     match fault {
         ShelfFault::Failed => ReadEnd::Fault,
@@ -34,8 +37,7 @@ pub fn read_whole<S: Shelf>(
     requires { limit < 2 ^ 63 }
     ensures bytes { IfOk result (λ b. IsTrue (S.state shelf.old).tells_files → (S.state shelf.old).file name.now ≡ Some b) }
     ensures limit { IfOk result (λ b. length b ≤ limit) }
-    ensures too_large { result ≡ Err ReadEnd.TooLarge → HasMore (S.state shelf.old) name.now limit }
-    ensures fault { result ≡ Err ReadEnd.Fault → ReadsCause (S.state shelf.old) (S.state shelf.new) name.now }
+    ensures end { IfErr result (λ end. ReadEnds end (S.state shelf.old) (S.state shelf.new) name.now limit) }
     ensures shelf { LeavesShelf (S.state shelf.old) (S.state shelf.new) }
 {
     let mut probe = [0u8; 1];

@@ -1,13 +1,10 @@
 // The command `request`: the licence request for initialization data, or the rejection.
-ghost use Rattle.std.specs.Prelude.{IfOk, IfSome, IsSome};
+ghost use Rattle.std.specs.Prelude.{IfOk, IsSome};
 ghost use Rattle.init_data.specs.InitData.{kids_of};
-ghost use Rattle.player_cli.specs.Command.{hex_bytes};
-ghost use Rattle.player_cli.specs.Answered.{IsAnswer, RequestSays};
+ghost use Rattle.player_cli.specs.Command.{hex_bytes, data_of};
+ghost use Rattle.player_cli.specs.Told.{IsAnswer};
 
-use crate::outcome::Outcome;
-use crate::say::say_text;
 use clearkey_json::request_text;
-use eme_edge::Shelf;
 use eme_types::{Bytes, InitKind};
 use init_data::{InitFault, kids_of};
 use std::alloc::{AllocError, Global};
@@ -28,17 +25,14 @@ fn answer_text(alloc: Global, kind: InitKind, bytes: &[u8]) -> Result<Bytes, All
     }
 }
 
-/// Says the answer to a request for initialization data of that type, given in hexadecimal digits.
+/// The answer to a request for initialization data of that type, given in hexadecimal digits.
 #[tactic(auto, unfolding(crate::specs::Command::hex_bytes))]
-pub fn answer<S: Shelf>(alloc: Global, kind: InitKind, hex: &str, shelf: &mut S) -> Outcome
+pub fn answer(alloc: Global, kind: InitKind, hex: &str) -> Result<Bytes, AllocError>
     requires { IsSome (hex_bytes hex.now) }
-    ensures { IfSome (hex_bytes hex.now) (λ bytes. RequestSays result (S.state shelf.old) (S.state shelf.new) kind bytes) }
+    ensures { IfOk result (λ text. IsAnswer (kids_of kind (data_of hex.now)) text) }
 {
     let Ok(bytes) = hex::decode(alloc, hex) else {
-        return Outcome::OutOfMemory;
+        return Err(AllocError);
     };
-    let Ok(text) = answer_text(alloc, kind, bytes.as_slice()) else {
-        return Outcome::OutOfMemory;
-    };
-    say_text(text.as_slice(), shelf)
+    answer_text(alloc, kind, bytes.as_slice())
 }

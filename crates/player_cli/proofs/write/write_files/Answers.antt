@@ -21,7 +21,7 @@ returns-in_err-start-clause-err g c =
     let at : c.index-files-i.result ≡ file_at c.args.files.now c.files.i = c.index-files-i.is ∙ get_or_default c.args.files.now c.files.i _ _ c.files-test.true in
     let name : c.name.result.now ≡ (file_at c.args.files.now c.files.i).name = c.name.ensures ∙ ap (λ (f : FileText). f.name) at in
     let p = err_from_is_err_and c.from_residual.result c.from_residual.ensures.1 in
-    rw p.1 (inl (stops_at_start (state c.args.shelf.now) (state c.files.shelf) (state c.start.new.self) c.args.files.now c.files.i c.requires c.files-test.true c.files.invariant (rw name at c.start.ensures.others) c.start.ensures.said))
+    rw p.1 (inl (stops_at_start (state c.args.shelf.now) (state c.files.shelf) (state c.start.new.self) c.args.files.now c.files.i c.requires c.files-test.true c.files.invariant (rw name at c.start.ensures.others) c.start.ensures.said c.start.ensures.tells))
 
 pub returns-in_err-append_text-clause-err : goal.returns-in_err-append_text-clause-err
 returns-in_err-append_text-clause-err g c =
@@ -31,4 +31,4 @@ returns-in_err-append_text-clause-err g c =
     let again : c.name-in-files.result.now ≡ (file_at c.args.files.now c.files.i).name = c.name-in-files.ensures ∙ ap (λ (f : FileText). f.name) at in
     let text : c.text.result.now ≡ (file_at c.args.files.now c.files.i).text = c.text.ensures ∙ ap (λ (f : FileText). f.text) at in
     let p = err_from_is_err_and c.from_residual-in_err-append_text.result c.from_residual-in_err-append_text.ensures.1 in
-    rw p.1 (inr (stops_in_text (state c.args.shelf.now) (state c.files.shelf) (state c.start.new.self) (state c.append_text.new.shelf) c.args.files.now c.files.i c.requires c.files-test.true c.files.invariant (rw name at c.start.ensures.others) c.start.ensures.said c.start.ensures.tells (rw (again, text) at c.in_err-append_text.ensures.front) (rw again at c.append_text.ensures.others) c.append_text.ensures.said))
+    rw p.1 (inr (stops_in_text (state c.args.shelf.now) (state c.files.shelf) (state c.start.new.self) (state c.append_text.new.shelf) c.args.files.now c.files.i c.requires c.files-test.true c.files.invariant (rw name at c.start.ensures.others) c.start.ensures.said c.start.ensures.tells (rw (again, text) at c.in_err-append_text.ensures.front) (rw again at c.append_text.ensures.others) c.append_text.ensures.said c.append_text.ensures.tells))

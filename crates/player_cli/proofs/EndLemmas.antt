@@ -1,0 +1,92 @@
+-- What the end of a command says, from what its steps say.
+use Rattle.std.proofs.Common.{◌≡◌, ◌+◌, inl, inr, ℕ, List, [], ◌∷◌, ◌++◌, length, refl, sym, subst, ap, ◌∙◌}
+use Rattle.std.specs.Prelude.{IsTrue, OnOk, OnErr, Result, Ok, Err}
+use Rattle.eme_types.specs.declared.media.Media.{Media}
+use Rattle.eme_edge.specs.Shelf.{ShelfState, Rose, SaidPart}
+use Rattle.eme_edge.specs.declared.shelf.ShelfFault.{ShelfFault}
+use Rattle.eme_edge.specs.declared.shelf.ShelfFault.TheVariants.{Failed, OutOfMemory as NoMemory}
+use Rattle.script_lang.specs.declared.script.Line.{Line}
+use Rattle.player_cli.specs.Command.{Names, Query, Asked, Play, Tell}
+use Rattle.player_cli.specs.Ends.{writing_end}
+use Rattle.player_cli.specs.FileText.{FileText}
+use Rattle.player_cli.specs.Inputs.{Input, ScriptRead, MediaRead, MediaEnds, Unread}
+use Rattle.player_cli.specs.Played.{ArePlayed, IsPlay}
+use Rattle.player_cli.specs.ReadAll.{LeavesShelf}
+use Rattle.player_cli.specs.Says.{HasDone, HasStopped, EndSays}
+use Rattle.player_cli.specs.Told.{inputs_of, IsText}
+use Rattle.player_cli.specs.Written.{WritesCause, IsWritten, IsStopped, KeepsOthers}
+use Rattle.player_cli.specs.declared.end.End.TheVariants.{Refused}
+use Rattle.player_cli.specs.declared.end.MediaEnd.{MediaEnd}
+use Rattle.player_cli.specs.declared.end.Refusal.TheVariants.{Media as NoMedia}
+use Rattle.player_cli.proofs.InputLemmas.{untouched_by_reading, both_leave, media_read_before, media_ends_before}
+use Rattle.player_cli.proofs.Writes.{tells_on}
+
+-- reading changed nothing that writing looks at
+module _ (old mid new : ShelfState) (kept : LeavesShelf old mid) (files : List FileText) (text : List ℕ) where
+  still_tells : IsTrue old.tells_files → IsTrue mid.tells_files
+  still_tells t = subst IsTrue (sym kept.tells.files) t
+
+  still_tells_said : IsTrue old.tells_said → IsTrue mid.tells_said
+  still_tells_said t = subst IsTrue (sym kept.tells.said) t
+
+  keeps_others : (n : ℕ) → KeepsOthers mid.file new.file files n → KeepsOthers old.file new.file files n
+  keeps_others n p name none = p name none ∙ kept.files name
+
+  rose_since : Rose mid.write_faults new.write_faults → Rose old.write_faults new.write_faults
+  rose_since r = let P : ℕ → Type 0 = λ n. Rose n new.write_faults in subst P kept.writes r
+
+  written_since : IsWritten mid new files text → IsWritten old new files text
+  written_since w = record {
+    texts = λ t. w.texts (still_tells t);
+    others = keeps_others (length files) w.others;
+    said = λ t. w.said (still_tells_said t) ∙ ap (λ s. s ++ text) kept.said;
+    tells = tells_on old mid new kept.tells w.tells;
+  }
+
+  stopped_since : IsStopped mid new files text → IsStopped old new files text
+  stopped_since (inl (inl s)) = inl (inl (record { n = s.n; within = s.within; texts = λ t. s.texts (still_tells t); others = keeps_others (s.n + 1) s.others; said = s.said ∙ kept.said; tells = tells_on old mid new kept.tells s.tells }))
+  stopped_since (inl (inr s)) = inl (inr (record { n = s.n; within = s.within; texts = λ t. s.texts (still_tells t); front = λ t. s.front (still_tells t); others = keeps_others (s.n + 1) s.others; said = s.said ∙ kept.said; tells = tells_on old mid new kept.tells s.tells }))
+  stopped_since (inr s) = inr (record { texts = λ t. s.texts (still_tells t); others = keeps_others (length files) s.others; said = λ t. subst (λ said. SaidPart said text new.said) kept.said (s.said (still_tells_said t)); tells = tells_on old mid new kept.tells s.tells })
+
+  -- what the writing says is what the command says
+  writing_says : (asked : Asked) → (IsWritten old new files text → HasDone asked old new) → (IsStopped old new files text → HasStopped asked old new)
+      → (r : Result Unit ShelfFault) → OnOk r (IsWritten mid new files text) → OnErr r (IsStopped mid new files text) → WritesCause mid new r → EndSays (writing_end r) asked old new
+  writing_says asked whole part (Ok done) ok err cause = whole (written_since ok)
+  writing_says asked whole part (Err Failed) ok err cause = (rose_since (cause.failed refl), part (stopped_since err))
+  writing_says asked whole part (Err NoMemory) ok err cause = part (stopped_since err)
+
+-- saying a text reads no file
+unread_since : (old mid new : ShelfState) (inputs : List Input) → Unread inputs old mid → new.read_faults ≡ mid.read_faults → Unread inputs old new
+unread_since old mid new [] unread reads = reads ∙ unread
+unread_since old mid new (input ∷ more) unread reads = tt
+
+pub text_ends : (old mid new : ShelfState) (query : Query) (text : List ℕ) (r : Result Unit ShelfFault) → LeavesShelf old mid → IsText old query text → Unread (inputs_of query) old mid
+    → OnOk r (IsWritten mid new [] text) → OnErr r (IsStopped mid new [] text) → WritesCause mid new r → EndSays (writing_end r) (Tell query) old new
+text_ends old mid new query text r kept is unread ok err cause =
+    let since = unread_since old mid new (inputs_of query) unread cause.reads in
+    writing_says old mid new kept [] text (Tell query)
+    (λ w. record { text = text; is = is; said = w; unread = since })
+    (λ s. record { text = text; is = is; said = s; unread = since })
+    r ok err cause
+
+-- a play: the script and then the media are read, and the texts of the play are written
+module _ (old mid last : ShelfState) (names : Names) (first : LeavesShelf old mid) where
+  pub no_media : (script : List Line) → ScriptRead old names.script script → LeavesShelf mid last → (end : MediaEnd) → MediaEnds end mid last names.media → EndSays (Refused (NoMedia end)) (Play names) old last
+  no_media script script_is second end says = (inr (record { script = script; read = script_is }, inl (end, refl, media_ends_before old mid last first end names.media says)), untouched_by_reading old last (both_leave old mid last first second))
+
+  pub play_ends : (new : ShelfState) (script : List Line) (media : Media) (files : List FileText) (summary : List ℕ) (r : Result Unit ShelfFault)
+      → names.workers ≡ 0 → ScriptRead old names.script script → MediaRead mid names.media media → LeavesShelf mid last → ArePlayed script media names.prefix files summary
+      → OnOk r (IsWritten last new files summary) → OnErr r (IsStopped last new files summary) → WritesCause last new r → EndSays (writing_end r) (Play names) old new
+  play_ends new script media files summary r none script_is media_is second played ok err cause =
+      let workers = rw (← none) at played.is in
+      let play : IsPlay old names media played.history = record {
+        script = script;
+        script_read = script_is;
+        media_read = media_read_before old mid last first names.media media media_is;
+        is = workers;
+        alone = played.alone;
+      } in
+      writing_says old last new (both_leave old mid last first second) files summary (Play names)
+      (λ w. record { media = media; history = played.history; play = play; written = rw (played.files_are, played.summary_is) at w })
+      (λ s. record { media = media; history = played.history; play = play; stopped = rw (played.files_are, played.summary_is) at s })
+      r ok err cause
