@@ -1,10 +1,10 @@
 -- A movie and its tracks are gathered box after box.
-use Rattle.std.proofs.Common.{◌≡◌, ℕ, true, List, [], ◌∷◌, ◌++◌, map, Option, Some, None, Result, Ok, refl, ◌∙◌, append_assoc}
+use Rattle.std.proofs.Common.{◌≡◌, ℕ, List, [], ◌∷◌, ◌++◌, map, Option, Some, None, Result, Ok, refl, ◌∙◌, append_assoc}
 use Rattle.std.specs.Prelude.{is_some}
 use Rattle.std.proofs.lemmas.List.{append-nil}
 use Rattle.iso_boxes.specs.Walk.{Found, Walked, inside}
-use Rattle.iso_boxes.specs.Children.{◌>>=◌, required, first}
-use Rattle.iso_boxes.proofs.Gathering.{Reader, Gathers, left, ends}
+use Rattle.iso_boxes.specs.Children.{◌>>=◌, required}
+use Rattle.iso_boxes.proofs.Gathering.{Reader, Gathers, left, ends, chosen, chosen_more, chosen_none, known_more}
 use Rattle.frag_boxes.specs.declared.fault.FragKind.TheVariants.{NoTrackId}
 use Rattle.frag_boxes.specs.declared.fault.FragFault.{FragFault}
 use Rattle.frag_boxes.specs.declared.records.MovieTrack.{MovieTrack}
@@ -18,24 +18,8 @@ use Rattle.frag_boxes.specs.declared.moov.MoovParts.{MoovParts}
 use Rattle.frag_boxes.specs.Moof.{fault_at, header_fault}
 use Rattle.frag_boxes.specs.Moov.{Seen, saw, ids, tables, track, trak_part_at, trak_at, moov_part_at, with_track, tracks_of, trexes_of, with_trex, mvex_part_at, mvex_at, moov_psshs, moov_at}
 use Rattle.frag_boxes.specs.Table.{or_none, somes}
-use Rattle.frag_boxes.specs.Gathering.{first_or, trak_added, moov_added, trex_added, whole_moov}
+use Rattle.frag_boxes.specs.Gathering.{trak_added, moov_added, trex_added, whole_moov}
 use Rattle.frag_boxes.specs.declared.records.TrackTrex.{TrackTrex}
-
-abbrev pub chosen : {A : Type 0} → Option A → List A → Option A
-chosen None xs = first xs
-chosen (Some x) xs = Some x
-
-pub chosen_more : {A : Type 0} (o : Option A) (x : A) (xs : List A) → chosen o (x ∷ xs) ≡ chosen (first_or o x) xs
-chosen_more None x xs = refl
-chosen_more (Some y) x xs = refl
-
-pub chosen_none : {A : Type 0} (o : Option A) → chosen o [] ≡ o
-chosen_none None = refl
-chosen_none (Some x) = refl
-
-pub known_more : {A : Type 0} (o : Option A) (x : A) → is_some (first_or o x) ≡ true
-known_more None x = refl
-known_more (Some y) x = refl
 
 abbrev pub seen_of : TrakParts → Seen
 seen_of s = record { tkhd = is_some s.id; mdia = is_some s.table }

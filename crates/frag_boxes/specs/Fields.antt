@@ -14,18 +14,23 @@ use Rattle.frag_boxes.specs.declared.records.TrackTrex.{TrackTrex}
 abbrev pub Gives : {X Y : Type 0} → (X → Y) → Result X FragKind → Result Y FragKind → Type 0
 Gives view result read = first_fault.Gives (λ e. e ≡ OutOfMemory) view result read
 
+-- a number of 8 bits
 abbrev pub u8 : Reading FragKind ℕ
 u8 = number Short w8
 
+-- a number of 24 bits
 abbrev pub u24 : Reading FragKind ℕ
 u24 = number24 Short
 
+-- a number of 32 bits
 abbrev pub u32 : Reading FragKind ℕ
 u32 = number Short w32
 
+-- a number of 64 bits
 abbrev pub u64 : Reading FragKind ℕ
 u64 = number Short w64
 
+-- a signed number of 32 bits
 abbrev pub i32 : Reading FragKind ℤ
 i32 = signed Short
 
@@ -55,6 +60,7 @@ item flags = do
 abbrev pub has_items : ℕ → Bool
 has_items flags = has 0x100 flags || has 0x200 flags || has 0x400 flags || has 0x800 flags
 
+-- one item for each sample, where a flag gives it a field
 abbrev pub items : ℕ → ℕ → Reading FragKind (List RunItem)
 items count flags = if has_items flags then repeated count (item flags) else yield []
 

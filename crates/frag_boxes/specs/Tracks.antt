@@ -5,6 +5,7 @@ use Rattle.eme_types.specs.Fed.{are_distinct}
 use Rattle.frag_boxes.specs.declared.records.MovieTrack.{MovieTrack}
 use Rattle.frag_boxes.specs.declared.records.Movie.{Movie}
 
+-- the id of a track
 abbrev pub track_id : MovieTrack → ℕ
 track_id t = t.id
 

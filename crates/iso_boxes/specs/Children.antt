@@ -52,6 +52,11 @@ abbrev pub first : {A : Type 0} → List A → Option A
 first [] = None
 first (x ∷ xs) = Some x
 
+-- of several the first
+abbrev pub first_or : {A : Type 0} → Option A → A → Option A
+first_or None x = Some x
+first_or (Some y) x = Some y
+
 -- the body of a box read by its layout; a broken rule has its place in the box
 abbrev pub placed : {E K A : Type 0} → (K → E) → Result (A × List ℕ) K → Result A E
 placed at (Ok x) = Ok x.0
