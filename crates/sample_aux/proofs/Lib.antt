@@ -1,4 +1,5 @@
 pub mod InOrder
+pub mod ItemsLeft
 pub mod Passes
 pub mod Known
 pub mod Runs
