@@ -24,3 +24,6 @@ pub mod Progress
 pub mod Windows
 pub mod InHand
 pub mod StillOpen
+pub mod OfSamples
+pub mod PastTicks
+pub mod Quiet

@@ -67,7 +67,7 @@ pub record Steps (ids : List ℕ) (p : Parts) (e : Entry) (d : Done) (s : Sessio
   pub entries : next.entries ≡ p.chronicle.entries ++ e ∷ []
   pub effects : next.effects ≡ p.chronicle.effects ++ s.effects ∷ []
 
-pub kept_stepped : (ids : List ℕ) (p : Parts) (e : Entry) (d : Done) (s : SessionsState) (us : List FedTrack) (c next : ChronicleState) → KeptIn ids p → Steps ids p e d s us c next → KeptIn ids (record p { chronicle = next; sessions = record s { effects = [] }; tracks = record (p.tracks) { tracks = us; claims = revoke_all s.lost p.tracks.claims } })
+pub kept_stepped : (ids : List ℕ) (p : Parts) (e : Entry) (d : Done) (s : SessionsState) (us : List FedTrack) (c next : ChronicleState) → KeptIn ids p → Steps ids p e d s us c next → KeptIn ids (record p { chronicle = next; sessions = record s { effects = []; lost = [] }; tracks = record (p.tracks) { tracks = us; claims = revoke_all s.lost p.tracks.claims } })
 kept_stepped ids p e d s us c next kept t =
     let m = p.sessions.machine in
     let ts = p.tracks.tracks in

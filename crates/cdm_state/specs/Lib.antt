@@ -14,4 +14,6 @@ pub mod Claims
 pub mod Shown
 pub mod Kept
 pub mod Progress
+pub mod Open
+pub mod OfSamples
 pub mod Waiting

@@ -15,7 +15,7 @@ use crate::chronicle::Chronicle;
 use crate::feed::{News, news_of};
 use eme_types::{Entry, Event, Fragment};
 use key_claims::Tracks;
-use key_sessions::{Lost, Sessions};
+use key_sessions::{Lost, Sessions, Step};
 use std::alloc::{AllocError, Global};
 
 /// The history with its effects, the sessions, the tracks with their claims, and the places of the claims that wait for their delivery.
@@ -47,11 +47,11 @@ impl Parts {
         ensures entries { self.new.chronicle.entries ≡ self.old.chronicle.entries ++ entry ∷ [] }
         ensures effects { self.new.chronicle.effects ≡ self.old.chronicle.effects ++ self.old.sessions.effects ∷ [] }
         ensures room { self.old.chronicle.room ≤ self.new.chronicle.room + 1 }
-        ensures rest { self.new ≡ record self.old { chronicle = self.new.chronicle; sessions = record self.old.sessions { effects = [] }; tracks = record self.old.tracks { claims = revoke_all self.old.sessions.lost self.old.tracks.claims } } }
+        ensures rest { self.new ≡ record self.old { chronicle = self.new.chronicle; sessions = record self.old.sessions { effects = []; lost = [] }; tracks = record self.old.tracks { claims = revoke_all self.old.sessions.lost self.old.tracks.claims } } }
     {
-        revoke_lost(&mut self.tracks, self.sessions.lost());
-        let did = self.sessions.take_effects();
-        self.chronicle.append(entry, did);
+        let Step { effects, lost } = self.sessions.take_step();
+        revoke_lost(&mut self.tracks, &lost);
+        self.chronicle.append(entry, effects);
     }
 
     /// The samples of what is fed come to their tracks. The events of the initialization data are answered, with room to queue them.
