@@ -25,7 +25,7 @@ use Rattle.output_order.specs.Lane.{line_with, line_of, lines_in, is_of_lane, la
 use Rattle.output_order.specs.Complete.{IsFront, HasLane, IsOfLine, IsBegun, feed_rest, implied}
 use Rattle.output_order.specs.Staffed.{NamesWorker}
 use Rattle.output_order.specs.Law.{IsOnTheWay}
-use Rattle.output_order.proofs.LineReading.{Here, IsOfNext, MayCome, claim_of, published_of}
+use Rattle.output_order.proofs.LineReading.{Here, IsOfNext, MayCome, claim_on, next_index}
 use Rattle.output_order.proofs.FedLengths.{track_samples}
 
 -- a call and a tick have a line
@@ -74,16 +74,20 @@ get_here (z ∷ xs) x ys = get_here xs x ys
 same_number : (n : ℕ) → (n == n) ≡ true
 same_number n = elim (eqb_tells n n) [ inl p ↦ p.0 | inr p ↦ absurd (p.1 refl) ]
 
+-- how many lines of a lane a history has gone through
+abbrev pub gone : List Entry → ℕ → ℕ
+gone h i = length (lane (lines_in h) i)
+
 -- what is known of the entry behind a front
 pub record Follows (n : ℕ) (script : List Line) (media : Media) (c : List Entry) (e : Entry) : Type 0 where
   pub allowed : Allowed media.tracks c e
-  pub next : (l : Line) → line_of e ≡ l ∷ [] → l.lane ≤ 7 → slice_get (lane script l.lane) (length (lane (lines_in c) l.lane)) ≡ Some l
+  pub next : (l : Line) → line_of e ≡ l ∷ [] → l.lane ≤ 7 → slice_get (lane script l.lane) (gone c l.lane) ≡ Some l
   pub known : HasLane e
   pub given : (f : Option Fragment) → fed_by e ≡ f ∷ [] → f ≡ slice_get media.fragments (length (feeds_in c))
   pub numbered : IsNumbered e
   pub worker : NamesWorker n e
 
-next_line : (script : List Line) (c : List Entry) (e : Entry) (r : List Entry) (l : Line) → line_of e ≡ l ∷ [] → IsFront (lane (lines_in (c ++ e ∷ r)) l.lane) (lane script l.lane) → slice_get (lane script l.lane) (length (lane (lines_in c) l.lane)) ≡ Some l
+next_line : (script : List Line) (c : List Entry) (e : Entry) (r : List Entry) (l : Line) → line_of e ≡ l ∷ [] → IsFront (lane (lines_in (c ++ e ∷ r)) l.lane) (lane script l.lane) → slice_get (lane script l.lane) (gone c l.lane) ≡ Some l
 next_line script c e r l is front =
     let i : ℕ = l.lane in
     let all : lines_in (c ++ e ∷ r) ≡ lines_in c ++ (l ∷ lines_in r) = flat_map-append line_of c (e ∷ r) ∙ ap (λ (ls : List Line). lines_in c ++ (ls ++ lines_in r)) is in
@@ -112,7 +116,7 @@ follows n script media c e r way = record {
 -- what is known before the entry that follows a front
 pub here : List Line → Media → List Entry → Here
 here script media c = record {
-  next = λ i. slice_get (lane script i) (length (lane (lines_in c) i));
+  next = λ i. slice_get (lane script i) (gone c i);
   fragment = slice_get media.fragments (length (feeds_in c));
   state = world media.tracks c;
 }
@@ -138,7 +142,11 @@ small_track : (ids : List ℕ) (h : List Entry) (id : ℕ) (t : TrackState) → 
 small_track ids h id t small found =
     found_id (λ k. k < 2 ^ 64) (world ids h).tracks id t (subst (λ (ks : List ℕ). AllByRecursion (λ k. k < 2 ^ 64) ks) (sym (world_ids ids h)) (recursion_from_All (λ k. k < 2 ^ 64) ids small)) found
 
-small_place : (h : List Entry) (place : ℕ) (e : Entry) → length h < 2 ^ 64 → IsAt h place e → place < 2 ^ 64
+-- its places are told in full
+abbrev pub IsShort : List Entry → Type 0
+IsShort h = length h < 2 ^ 64
+
+small_place : (h : List Entry) (place : ℕ) (e : Entry) → IsShort h → IsAt h place e → place < 2 ^ 64
 small_place h place e short at =
     let within : place - 1 < length h = slice_get_within h (place - 1) e at.1 in
     omega (arith, within, at.0)
@@ -149,14 +157,14 @@ small_index ids h id index t sample legal found fed =
     let within : index < length t.fed = slice_get_within t.fed index sample fed in
     omega (arith, few, within)
 
-the_claim : (ids : List ℕ) (h : List Entry) (worker track index session : ℕ) (kid : List ℕ) → MayClaim ids h track index session kid → claim_of (world ids h).machine worker track index (fed_sample (world ids h) track index) ≡ Some (Claim worker track index session kid)
+the_claim : (ids : List ℕ) (h : List Entry) (worker track index session : ℕ) (kid : List ℕ) → MayClaim ids h track index session kid → claim_on (world ids h) worker track index ≡ Some (Claim worker track index session kid)
 the_claim ids h worker track index session kid may =
     let sample : fed_sample (world ids h) track index ≡ Some may.sample = ap (λ (o : Option TrackState). fed_at o index) may.known ∙ may.fed in
     let picked : pick (world ids h).machine may.protect.kid ≡ Some (session, may.key) = ap (λ (k : List ℕ). pick (world ids h).machine k) may.same_id ∙ may.picked in
     rw (sample, may.protected, picked) (ap (λ (k : List ℕ). Some (Claim worker track index session k)) may.same_id)
 
 -- the entry that follows a front may come there
-pub may_come : (n : ℕ) (script : List Line) (media : Media) (c : List Entry) (e : Entry) → n < 2 ^ 64 → All (λ t. t < 2 ^ 64) media.tracks → length c < 2 ^ 64 → IsLegal media.tracks c → Follows n script media c e → MayCome (here script media c) e
+pub may_come : (n : ℕ) (script : List Line) (media : Media) (c : List Entry) (e : Entry) → n < 2 ^ 64 → All (λ t. t < 2 ^ 64) media.tracks → IsShort c → IsLegal media.tracks c → Follows n script media c e → MayCome (here script media c) e
 unfolding here
 may_come n script media c (Call i line call) few small short legal f =
     let low : i ≤ 7 = f.known in
@@ -173,9 +181,9 @@ may_come n script media c (Deliver place verdict) few small short legal f = smal
 may_come n script media c (GiveUp place) few small short legal f = small_place c place _ short f.allowed.at
 may_come n script media c (Publish track index place) few small short legal f =
     let may = f.allowed in
-    (small_track media.tracks c track may.state small may.known, small_place c place may.live.claim short may.live.live.at, may.next ∙ ap published_of (sym may.known))
+    (small_track media.tracks c track may.state small may.known, small_place c place may.live.claim short may.live.live.at, may.next ∙ ap next_index (sym may.known))
 may_come n script media c (PassClear track index) few small short legal f =
     let may = f.allowed in
-    (small_track media.tracks c track may.state small may.known, may.next ∙ ap published_of (sym may.known))
+    (small_track media.tracks c track may.state small may.known, may.next ∙ ap next_index (sym may.known))
 may_come n script media c (WaitForKey track) few small short legal f = small_track media.tracks c track f.allowed.state small f.allowed.known
 may_come n script media c (Settle line) few small short legal f = of_next n script media c (Settle line) line SettleAction refl f

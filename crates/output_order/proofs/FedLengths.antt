@@ -24,13 +24,16 @@ abbrev all_samples : List TrackState → ℕ
 all_samples [] = 0
 all_samples (t ∷ ts) = length t.fed + all_samples ts
 
-change_case : (b : Bool) (t : TrackState) (ts us : List TrackState) (f : TrackState → TrackState) (n : ℕ) → length (f t).fed ≤ length t.fed + n → all_samples us ≤ all_samples ts + n → all_samples (if b then f t ∷ ts else t ∷ us) ≤ length t.fed + all_samples ts + n
-change_case true t ts us f n one rest = omega (arith, one)
-change_case false t ts us f n one rest = omega (arith, rest)
+either_few : (b : Bool) (ts us : List TrackState) (n : ℕ) → all_samples ts ≤ n → all_samples us ≤ n → all_samples (if b then ts else us) ≤ n
+either_few true ts us n p q = p
+either_few false ts us n p q = q
 
 change_samples : (ts : List TrackState) (id : ℕ) (f : TrackState → TrackState) (n : ℕ) → ((t : TrackState) → length (f t).fed ≤ length t.fed + n) → all_samples (change_track ts id f) ≤ all_samples ts + n
 change_samples [] id f n adds = omega arith
-change_samples (t ∷ ts) id f n adds = change_case (t.id == id) t ts (change_track ts id f) f n (adds t) (change_samples ts id f n adds)
+change_samples (t ∷ ts) id f n adds =
+    let one : length (f t).fed ≤ length t.fed + n = adds t in
+    let rest : all_samples (change_track ts id f) ≤ all_samples ts + n = change_samples ts id f n adds in
+    either_few (t.id == id) (f t ∷ ts) (t ∷ change_track ts id f) (length t.fed + all_samples ts + n) (omega (arith, one)) (omega (arith, rest))
 
 resumed_one : (b : Bool) (t : TrackState) → length (if b then record t { waiting = false } else t).fed ≡ length t.fed
 resumed_one true t = refl

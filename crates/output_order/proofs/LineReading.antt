@@ -6,7 +6,7 @@ use Rattle.std.specs.Str.{bytes_eq}
 use Rattle.std.specs.Str.Parse.{digits_value}
 use Rattle.std.specs.Fmt.{decimal, digits, digits_onto, digit_glyph}
 use Rattle.std.proofs.lemmas.Fmt.{decimal_is_IsNumeral, decimal_digit}
-use Rattle.std.proofs.lemmas.Bool.Decides.{eqb_tells, leb_tells}
+use Rattle.std.proofs.lemmas.Bool.Decides.{eqb_tells, leb_tells, same_from_decides}
 use Rattle.std.proofs.lemmas.Slice.Eq.{bytes_eq-Decides}
 use Rattle.eme_types.specs.declared.sample.EncSample.{EncSample}
 use Rattle.eme_types.specs.declared.sample.Protect.{Protect}
@@ -163,14 +163,18 @@ abbrev claim_under : Machine → ℕ → ℕ → ℕ → Option Protect → Opti
 claim_under m worker track index None = None
 claim_under m worker track index (Some p) = claim_by worker track index p.kid (pick m p.kid)
 
--- the claim that may come on a sample
-abbrev pub claim_of : Machine → ℕ → ℕ → ℕ → Option EncSample → Option Entry
+abbrev claim_of : Machine → ℕ → ℕ → ℕ → Option EncSample → Option Entry
 claim_of m worker track index None = None
 claim_of m worker track index (Some sample) = claim_under m worker track index sample.protect
 
-abbrev pub published_of : Option TrackState → ℕ
-published_of None = 0
-published_of (Some t) = t.published
+-- the index of the next sample of a track
+abbrev pub next_index : Option TrackState → ℕ
+next_index None = 0
+next_index (Some t) = t.published
+
+-- the claim that may come on a sample
+abbrev pub claim_on : World → ℕ → ℕ → ℕ → Option Entry
+claim_on w worker track index = claim_of w.machine worker track index (fed_sample w track index)
 
 abbrev verdict_of : List ℕ → Verdict
 verdict_of word = if bytes_eq word (codes "taken") then Taken else Stale
@@ -183,11 +187,11 @@ read_words s verb a b c =
     else (if bytes_eq verb (codes "task") then Some Task
     else (if bytes_eq verb (codes "tick") then tick_of (s.next 0)
     else (if bytes_eq verb (codes "feed") then Some (Feed (line_number a (s.next 0)) s.fragment)
-    else (if bytes_eq verb (codes "claim") then claim_of s.state.machine (value_of a) (value_of b) (value_of c) (fed_sample s.state (value_of b) (value_of c))
+    else (if bytes_eq verb (codes "claim") then claim_on s.state (value_of a) (value_of b) (value_of c)
     else (if bytes_eq verb (codes "deliver") then Some (Deliver (value_of a) (verdict_of b))
     else (if bytes_eq verb (codes "giveup") then Some (GiveUp (value_of a))
-    else (if bytes_eq verb (codes "publish") then Some (Publish (value_of a) (published_of (find_track s.state.tracks (value_of a))) (value_of c))
-    else (if bytes_eq verb (codes "clear") then Some (PassClear (value_of a) (published_of (find_track s.state.tracks (value_of a))))
+    else (if bytes_eq verb (codes "publish") then Some (Publish (value_of a) (next_index (find_track s.state.tracks (value_of a))) (value_of c))
+    else (if bytes_eq verb (codes "clear") then Some (PassClear (value_of a) (next_index (find_track s.state.tracks (value_of a))))
     else (if bytes_eq verb (codes "wait") then Some (WaitForKey (value_of a))
     else Some (Settle (line_number a (s.next 0)))))))))))))
 
@@ -206,22 +210,19 @@ MayCome s Job = Unit {0}
 MayCome s Task = Unit {0}
 MayCome s (Tick line moment) = s.next 0 ≡ Some (record { number = line; lane = 0; action = Clock moment })
 MayCome s (Feed line fragment) = IsOfNext s line FeedAction × (fragment ≡ s.fragment)
-MayCome s (Claim worker track index session kid) = (worker < 2 ^ 64) × (track < 2 ^ 64) × (index < 2 ^ 64) × (claim_of s.state.machine worker track index (fed_sample s.state track index) ≡ Some (Claim worker track index session kid))
+MayCome s (Claim worker track index session kid) = (worker < 2 ^ 64) × (track < 2 ^ 64) × (index < 2 ^ 64) × (claim_on s.state worker track index ≡ Some (Claim worker track index session kid))
 MayCome s (Deliver place verdict) = place < 2 ^ 64
 MayCome s (GiveUp place) = place < 2 ^ 64
-MayCome s (Publish track index place) = (track < 2 ^ 64) × (place < 2 ^ 64) × (index ≡ published_of (find_track s.state.tracks track))
-MayCome s (PassClear track index) = (track < 2 ^ 64) × (index ≡ published_of (find_track s.state.tracks track))
+MayCome s (Publish track index place) = (track < 2 ^ 64) × (place < 2 ^ 64) × (index ≡ next_index (find_track s.state.tracks track))
+MayCome s (PassClear track index) = (track < 2 ^ 64) × (index ≡ next_index (find_track s.state.tracks track))
 MayCome s (WaitForKey track) = track < 2 ^ 64
 MayCome s (Settle line) = IsOfNext s line SettleAction
-
-other_text : (a b : List ℕ) → a ≢ b → bytes_eq a b ≡ false
-other_text a b ne = elim (bytes_eq a b) as (λ v. bytes_eq a b ≡ v → v ≡ false) [ true ↦ λ e. absurd (ne ((bytes_eq-Decides a b).0 e)) | false ↦ λ e. refl ] refl
 
 number_read : (s : Here) (line : ℕ) (action : Action) → IsOfNext s line action → line_number (decimal line) (s.next 0) ≡ line
 unfolding digits
 number_read s line action of = elim of [
   | inl e ↦ rw e refl
-  | inr p ↦ rw (other_text (decimal line) (codes "0") (not_zero line p.0), p.1) refl
+  | inr p ↦ (let other : bytes_eq (decimal line) (codes "0") ≡ false = same_from_decides _ _ (bytes_eq-Decides (decimal line) (codes "0")) ((λ e. absurd cc), (λ e. absurd (not_zero line p.0 e))) in rw (other, p.1) refl)
 ]
 
 second : (v w s r : List ℕ) → IsWord v → IsWord w → Parts s → front_word (drop 1 (past_word ((v ++ (32 ∷ (w ++ s))) ++ r))) ≡ w
@@ -234,12 +235,8 @@ third u v w s r us vs ws parts = ap (λ (t : List ℕ). front_word (drop 1 (past
 first_number : (k : ℕ) (s r : List ℕ) → Parts s → front_word ((decimal k ++ s) ++ r) ≡ decimal k
 first_number k s r parts = front (decimal k) s r (decimal_word k) parts
 
-claim_read : (s : Here) (a b c : List ℕ) (worker track index : ℕ) → a ≡ decimal worker → b ≡ decimal track → c ≡ decimal index → worker < 2 ^ 64 → track < 2 ^ 64 → index < 2 ^ 64 → claim_of s.state.machine (value_of a) (value_of b) (value_of c) (fed_sample s.state (value_of b) (value_of c)) ≡ claim_of s.state.machine worker track index (fed_sample s.state track index)
-claim_read s a b c worker track index ea eb ec la lb lc =
-    let A : value_of a ≡ worker = ap value_of ea ∙ value worker la in
-    let B : value_of b ≡ track = ap value_of eb ∙ value track lb in
-    let C : value_of c ≡ index = ap value_of ec ∙ value index lc in
-    rw (A, B, C) refl
+told : (word : List ℕ) (n : ℕ) → word ≡ decimal n → n < 2 ^ 64 → value_of word ≡ n
+told word n is small = ap value_of is ∙ value n small
 
 -- the line of an entry that may come tells the entry
 pub read_back : (s : Here) (n : ℕ) (e : Entry) (r : List ℕ) → MayCome s e → read_entry s (entry_words n e ++ r) ≡ Some e
@@ -251,12 +248,14 @@ read_back s n (Tick line moment) r may = ap (λ (o : Option Line). tick_of o) ma
 read_back s n (Feed line fragment) r may = ap (λ (w : List ℕ). Some (Feed (line_number w (s.next 0)) s.fragment)) (first_number line (codes " " ++ (fragment_name n fragment ++ codes "\n")) r (omega arith)) ∙ (ap (λ (k : ℕ). Some (Feed k s.fragment)) (number_read s line FeedAction may.0) ∙ ap (λ (f : Option Fragment). Some (Feed line f)) (sym may.1))
 read_back s n (Claim worker track index session kid) r may =
     let end : List ℕ = codes " " ++ (decimal session ++ (codes " " ++ (hex_text kid ++ codes "\n"))) in
-    claim_read s _ _ _ worker track index
-    (first_number worker (codes " " ++ (decimal track ++ (codes " " ++ (decimal index ++ end)))) r (omega arith))
-    (second (decimal worker) (decimal track) (codes " " ++ (decimal index ++ end)) r (decimal_word worker) (decimal_word track) (omega arith))
-    (third (decimal worker) (decimal track) (decimal index) end r (decimal_word worker) (decimal_word track) (decimal_word index) (omega arith))
-    may.0 may.1 may.2
-    ∙ may.3
+    let text : List ℕ = entry_words n (Claim worker track index session kid) ++ r in
+    let a : List ℕ = first_word (next_words text) in
+    let b : List ℕ = first_word (next_words (next_words text)) in
+    let c : List ℕ = first_word (next_words (next_words (next_words text))) in
+    let first : value_of a ≡ worker = told a worker (first_number worker (codes " " ++ (decimal track ++ (codes " " ++ (decimal index ++ end)))) r (omega arith)) may.0 in
+    let then_ : value_of b ≡ track = told b track (second (decimal worker) (decimal track) (codes " " ++ (decimal index ++ end)) r (decimal_word worker) (decimal_word track) (omega arith)) may.1 in
+    let last : value_of c ≡ index = told c index (third (decimal worker) (decimal track) (decimal index) end r (decimal_word worker) (decimal_word track) (decimal_word index) (omega arith)) may.2 in
+    ap (λ (k : ℕ). claim_on s.state k (value_of b) (value_of c)) first ∙ (ap (λ (k : ℕ). claim_on s.state worker k (value_of c)) then_ ∙ (ap (λ (k : ℕ). claim_on s.state worker track k) last ∙ may.3))
 read_back s n (Deliver place Taken) r may =
     let end : List ℕ = codes " " ++ (codes "taken" ++ codes "\n") in
     ap (λ (t : List ℕ). Some (Deliver (value_of (front_word ((decimal place ++ end) ++ r))) (verdict_of (front_word (drop 1 t))))) (past (decimal place) end r (decimal_word place) (omega arith))
@@ -269,10 +268,10 @@ read_back s n (GiveUp place) r may = ap (λ (w : List ℕ). Some (GiveUp (value_
 read_back s n (Publish track index place) r may =
     let text : List ℕ = entry_words n (Publish track index place) ++ r in
     let c : List ℕ = first_word (next_words (next_words (next_words text))) in
-    ap (λ (w : List ℕ). Some (Publish (value_of w) (published_of (find_track s.state.tracks (value_of w))) (value_of c))) (first_number track (codes " " ++ (decimal index ++ (codes " " ++ (decimal place ++ codes "\n")))) r (omega arith))
-    ∙ (ap (λ (k : ℕ). Some (Publish k (published_of (find_track s.state.tracks k)) (value_of c))) (value track may.0)
-    ∙ (ap (λ (w : List ℕ). Some (Publish track (published_of (find_track s.state.tracks track)) (value_of w))) (third (decimal track) (decimal index) (decimal place) (codes "\n") r (decimal_word track) (decimal_word index) (decimal_word place) (omega arith))
-    ∙ (ap (λ (k : ℕ). Some (Publish track (published_of (find_track s.state.tracks track)) k)) (value place may.1) ∙ ap (λ (i : ℕ). Some (Publish track i place)) (sym may.2))))
-read_back s n (PassClear track index) r may = ap (λ (w : List ℕ). Some (PassClear (value_of w) (published_of (find_track s.state.tracks (value_of w))))) (first_number track (codes " " ++ (decimal index ++ codes "\n")) r (omega arith)) ∙ (ap (λ (k : ℕ). Some (PassClear k (published_of (find_track s.state.tracks k)))) (value track may.0) ∙ ap (λ (i : ℕ). Some (PassClear track i)) (sym may.1))
+    ap (λ (w : List ℕ). Some (Publish (value_of w) (next_index (find_track s.state.tracks (value_of w))) (value_of c))) (first_number track (codes " " ++ (decimal index ++ (codes " " ++ (decimal place ++ codes "\n")))) r (omega arith))
+    ∙ (ap (λ (k : ℕ). Some (Publish k (next_index (find_track s.state.tracks k)) (value_of c))) (value track may.0)
+    ∙ (ap (λ (w : List ℕ). Some (Publish track (next_index (find_track s.state.tracks track)) (value_of w))) (third (decimal track) (decimal index) (decimal place) (codes "\n") r (decimal_word track) (decimal_word index) (decimal_word place) (omega arith))
+    ∙ (ap (λ (k : ℕ). Some (Publish track (next_index (find_track s.state.tracks track)) k)) (value place may.1) ∙ ap (λ (i : ℕ). Some (Publish track i place)) (sym may.2))))
+read_back s n (PassClear track index) r may = ap (λ (w : List ℕ). Some (PassClear (value_of w) (next_index (find_track s.state.tracks (value_of w))))) (first_number track (codes " " ++ (decimal index ++ codes "\n")) r (omega arith)) ∙ (ap (λ (k : ℕ). Some (PassClear k (next_index (find_track s.state.tracks k)))) (value track may.0) ∙ ap (λ (i : ℕ). Some (PassClear track i)) (sym may.1))
 read_back s n (WaitForKey track) r may = ap (λ (w : List ℕ). Some (WaitForKey (value_of w))) (first_number track (codes "\n") r (omega arith)) ∙ ap (λ (k : ℕ). Some (WaitForKey k)) (value track may)
 read_back s n (Settle line) r may = ap (λ (w : List ℕ). Some (Settle (line_number w (s.next 0)))) (first_number line (codes "\n") r (omega arith)) ∙ ap (λ (k : ℕ). Some (Settle k)) (number_read s line SettleAction may)

@@ -15,7 +15,7 @@ use Rattle.cdm_state.proofs.Histories.{world_more, legal_front}
 use Rattle.output_order.specs.Log.{entry_words, entry_line, effect_lines, fragments_fed, lines_from, log_of}
 use Rattle.output_order.specs.Law.{IsOnTheWay, LogDetermines}
 use Rattle.output_order.proofs.LineReading.{read_entry, read_back}
-use Rattle.output_order.proofs.ComingNext.{here, follows, may_come}
+use Rattle.output_order.proofs.ComingNext.{here, IsShort, follows, may_come}
 
 some_words : (n : ℕ) (e : Entry) → 1 ≤ length (entry_words n e)
 some_words n (Call lane line call) = omega arith
@@ -44,22 +44,22 @@ behind_place p n x y r s e = append_cancel_left (decimal p) (entry_words n x ++ 
 
 module _ (n : ℕ) (script : List Line) (media : Media) (few : n < 2 ^ 64) (small : All (λ t. t < 2 ^ 64) media.tracks) where
   -- the first entries behind a common front are one
-  same_entry : (c : List Entry) (x y : Entry) (xs ys : List Entry) (m : ℕ) (r s : List ℕ) → length c < 2 ^ 64 → IsOnTheWay n script media (c ++ x ∷ xs) → IsOnTheWay n script media (c ++ y ∷ ys) → entry_words m x ++ r ≡ entry_words m y ++ s → x ≡ y
-  same_entry c x y xs ys m r s short a b e =
+  same_entry : (c xs ys : List Entry) (x y : Entry) (m : ℕ) (r s : List ℕ) → IsShort c → IsOnTheWay n script media (c ++ x ∷ xs) → IsOnTheWay n script media (c ++ y ∷ ys) → entry_words m x ++ r ≡ entry_words m y ++ s → x ≡ y
+  same_entry c xs ys x y m r s short a b e =
       let front = legal_front media.tracks c (x ∷ xs) a.legal in
       let mx = may_come n script media c x few small short front (follows n script media c x xs a) in
       let my = may_come n script media c y few small short front (follows n script media c y ys b) in
       same_Some x y (sym (read_back (here script media c) m x r mx) ∙ (ap (λ (t : List ℕ). read_entry (here script media c) t) e ∙ read_back (here script media c) m y s my))
 
-  same_rest : (xs ys c : List Entry) (p m : ℕ) → length (c ++ xs) < 2 ^ 64 → IsOnTheWay n script media (c ++ xs) → IsOnTheWay n script media (c ++ ys) → lines_from (world media.tracks c) p m xs ≡ lines_from (world media.tracks c) p m ys → xs ≡ ys
+  same_rest : (xs ys c : List Entry) (p m : ℕ) → IsShort (c ++ xs) → IsOnTheWay n script media (c ++ xs) → IsOnTheWay n script media (c ++ ys) → lines_from (world media.tracks c) p m xs ≡ lines_from (world media.tracks c) p m ys → xs ≡ ys
   same_rest [] [] c p m short a b e = refl
   same_rest [] (y ∷ ys) c p m short a b e = absurd (some_line p m y _ e)
   same_rest (x ∷ xs) [] c p m short a b e = absurd (some_line p m x _ (sym e))
   same_rest (x ∷ xs) (y ∷ ys) c p m short a b e =
       let w : World = world media.tracks c in
       let v : World = after_entry w x in
-      let brief : length c < 2 ^ 64 = omega (arith, short, length-append c (x ∷ xs)) in
-      let same : x ≡ y = same_entry c x y xs ys m _ _ brief a b (behind_place p m x y (effect_lines (effects_of w x) ++ lines_from v (p + 1) (m + fragments_fed x) xs) (effect_lines (effects_of w y) ++ lines_from (after_entry w y) (p + 1) (m + fragments_fed y) ys) e) in
+      let brief : IsShort c = omega (arith, short, length-append c (x ∷ xs)) in
+      let same : x ≡ y = same_entry c xs ys x y m _ _ brief a b (behind_place p m x y (effect_lines (effects_of w x) ++ lines_from v (p + 1) (m + fragments_fed x) xs) (effect_lines (effects_of w y) ++ lines_from (after_entry w y) (p + 1) (m + fragments_fed y) ys) e) in
       let Same : Entry → Type 0 = λ z. IsOnTheWay n script media (c ++ z ∷ ys) → entry_line p m x ++ (effect_lines (effects_of w x) ++ lines_from v (p + 1) (m + fragments_fed x) xs) ≡ entry_line p m z ++ (effect_lines (effects_of w z) ++ lines_from (after_entry w z) (p + 1) (m + fragments_fed z) ys) → x ∷ xs ≡ z ∷ ys in
       let seam : (zs : List Entry) → c ++ x ∷ zs ≡ (c ++ x ∷ []) ++ zs = λ zs. sym (append_assoc c (x ∷ []) zs) in
       let on : Same x = λ d f.
@@ -67,7 +67,7 @@ module _ (n : ℕ) (script : List Line) (media : Media) (few : n < 2 ^ 64) (smal
       let rest : lines_from v (p + 1) (m + fragments_fed x) xs ≡ lines_from v (p + 1) (m + fragments_fed x) ys = append_cancel_left (effect_lines (effects_of w x)) _ _ effects in
       let L : World → Type 0 = λ u. lines_from u (p + 1) (m + fragments_fed x) xs ≡ lines_from u (p + 1) (m + fragments_fed x) ys in
       ap (λ (zs : List Entry). x ∷ zs) (same_rest xs ys (c ++ x ∷ []) (p + 1) (m + fragments_fed x)
-      (subst (λ (zs : List Entry). length zs < 2 ^ 64) (seam xs) short)
+      (subst IsShort (seam xs) short)
       (subst (λ (zs : List Entry). IsOnTheWay n script media zs) (seam xs) a)
       (subst (λ (zs : List Entry). IsOnTheWay n script media zs) (seam ys) d)
       (subst L (sym (world_more media.tracks c x)) rest))) in
