@@ -2,7 +2,8 @@
 use Rattle.std.specs.Prelude.{ℕ, List, [], ◌∷◌, Option, Some, None, Result, Ok, Err, ok_or, codes, bytes_eq, if◌then◌else◌}
 use Rattle.serde_json.specs.Data.{Data}
 use Rattle.serde_json.specs.Find.{get, as_array, as_object, as_str}
-use Rattle.clearkey_json.specs.Json.{json_of, list_of, ◌>>=◌, read_each}
+use Rattle.clearkey_json.specs.Json.{json_of, list_of}
+use Rattle.eme_types.specs.FirstFault.{◌>>=◌, read_each}
 use Rattle.eme_types.specs.declared.access.Capability.{Capability}
 use Rattle.eme_types.specs.declared.access.Config.{Config}
 use Rattle.eme_types.specs.declared.access.Need.{Need}
