@@ -1,6 +1,7 @@
 pub mod InOrder
 pub mod ItemsLeft
 pub mod Passes
+pub mod Near
 pub mod Known
 pub mod Runs
 pub mod Indices
