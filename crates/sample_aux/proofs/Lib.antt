@@ -8,6 +8,5 @@ pub mod Indices
 pub mod Given
 pub mod Following
 pub mod Parts
-pub mod Both
 pub mod Joining
 pub mod Within

@@ -13,18 +13,6 @@ behind_near size end start at fits inside h = λ b wide near.
     let l = (h b wide near).0 in
     (omega (arith, ints, l), omega (arith, ints, wide, fits, inside))
 
-pub same_near : (at : ℤ) → StaysNear at at
-same_near at = λ b wide near. near
-
-pub start_near : (at : ℤ) → EndsNear at at
-start_near at = λ b wide near. wider b (b + 2 ^ 32) at (omega arith) near
-
-pub both_near : (start at next : ℤ) → StaysNear start at → EndsNear at next → EndsNear start next
-both_near start at next h g = λ b wide near. g b wide (h b wide near)
-
-pub few : (k : ℕ) → k < 2 ^ 64 → 2 ^ 64 + k * 2 ^ 32 ≤ 2 ^ 98
-few k h = omega (arith, h)
-
 -- a run that begins near the base ends near it
 pub run_near : (base at begin next : ℤ) → EndsNear base at → ((b : ℕ) → IsNear b base → IsNear (b + 2 ^ 32) at → IsNear (b + 2 ^ 32) begin) → StaysNear begin next → EndsNear base next
 run_near base at begin next h g k = λ b wide near. k (b + 2 ^ 32) (omega (arith, wide)) (g b near (h b wide near))

@@ -68,7 +68,7 @@ fn size_of(run: &Trun, default: u32, k: u32) -> u32
 
 #[tactic(auto, unfolding(crate::specs::Laying::range_at))]
 fn range_at(end: u64, place: u64, cursor: DataCursor, size: u32) -> Result<SampleRange, AuxFault>
-    ensures gives { Gives (λ x. x) result (range_at end place cursor size) }
+    ensures value { result ≡ range_at end place cursor size }
     ensures size { IfOk result (λ x. (x.size ≡ size) × ((cursor.at +ℤ pos size) ≤ℤ pos end) × (size ≤ cursor.bytes)) }
 {
     if cursor.bytes < u64::from(size) {
