@@ -7,7 +7,7 @@ use Rattle.std.proofs.lemmas.List.Sums.{AllPass-from_list_all, list_all-from_All
 use Rattle.hex.specs.Hex.{decode_of, is_hex_digit}
 use Rattle.hex.specs.declared.error.FromHexError.{FromHexError}
 use Rattle.hex.proofs.HexLemmas.{decode_of-odd, decode_of-ok, decode_of-digits}
-use Rattle.player_cli.specs.Command.{hex_bytes}
+use Rattle.text_words.specs.Hexadecimal.{hex_bytes}
 
 pub odd_word : (s : List ℕ) → length s % 2 ≡ 1 → is_some (hex_bytes s) ≡ false
 unfolding hex_bytes

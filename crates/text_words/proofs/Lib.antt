@@ -1,0 +1,4 @@
+pub mod PieceLemmas
+pub mod LineLemmas
+pub mod NumberLemmas
+pub mod HexLemmas
