@@ -1,12 +1,11 @@
 -- The words of the command line.
-use Rattle.std.specs.Prelude.{ℕ, ◌^◌, ◌≡◌, ◌==◌, ◌&&◌, ◌||◌, nat_lt, Bool, false, not, if◌then◌else◌, List, [], ◌∷◌, length, slice_index, codes, Option, IsSome, Some, None, unwrap_or, option_and_then, Result, Ok, Err}
+use Rattle.std.specs.Prelude.{ℕ, ◌-◌, ◌^◌, ◌≡◌, ◌&&◌, ◌||◌, Bool, false, not, if◌then◌else◌, List, [], ◌∷◌, codes, Option, IsSome, Some, None, unwrap_or, option_and_then, Result, Ok, Err}
 use Rattle.std.specs.Char.{is_ascii_digit}
 use Rattle.std.specs.List.{list_all}
-use Rattle.std.specs.Result.{result_ok}
 use Rattle.std.specs.Str.{bytes_eq}
-use Rattle.std.specs.Str.Parse.{digits_value}
-use Rattle.hex.specs.Hex.{decode_of}
-use Rattle.script_lang.specs.Parts.{behind}
+use Rattle.text_words.specs.Fronts.{is_nothing, behind}
+use Rattle.text_words.specs.Numbers.{number_up_to}
+use Rattle.text_words.specs.Hexadecimal.{hex_bytes}
 use Rattle.player_cli.specs.declared.outcome.UsageKind.{UsageKind}
 use Rattle.player_cli.specs.declared.outcome.UsageKind.TheVariants.{MissingCommand, UnknownCommand, MissingWord, ExtraWord, BadNumber, BadKind, BadHex, EmptyName, NameClash}
 use Rattle.player_cli.specs.declared.outcome.UsageFault.{UsageFault}
@@ -41,10 +40,6 @@ pub data Asked : Type 0 where
 -- a word at this place is bad
 abbrev pub bad_word : ℕ → UsageKind → UsageFault
 bad_word place kind = record { place = place; kind = kind }
-
--- the empty word
-abbrev pub is_nothing : List ℕ → Bool
-is_nothing word = length word == 0
 
 -- ---- the command `play`
 
@@ -127,10 +122,6 @@ abbrev pub request_over : Asked → List (List ℕ) → Result Asked UsageFault
 request_over asked [] = Ok asked
 request_over asked (word ∷ more) = Err (bad_word 4 ExtraWord)
 
--- pairs of hexadecimal digits
-unfoldable pub hex_bytes : List ℕ → Option (List ℕ)
-hex_bytes text = result_ok (decode_of text)
-
 -- the words behind the data
 abbrev pub request_bytes : InitKind → Option (List ℕ) → List (List ℕ) → Result Asked UsageFault
 request_bytes kind None more = Err (bad_word 3 BadHex)
@@ -153,14 +144,6 @@ request_words (word ∷ more) = request_kind (kind_of word) more
 
 -- ---- the command `demo`
 
--- decimal digits, without leading zeros unless the number is 0
-abbrev pub is_number : List ℕ → Bool
-is_number word = not (is_nothing word) && list_all is_ascii_digit word && (length word == 1 || not (slice_index word 0 == 48))
-
--- the number below 2^64 that the word writes
-unfoldable pub number_of : List ℕ → Option ℕ
-number_of word = if is_number word then (if nat_lt (digits_value 10 word) (2 ^ 64) then Some (digits_value 10 word) else None) else None
-
 -- no word stands behind the number
 abbrev pub demo_over : ℕ → List (List ℕ) → Result Asked UsageFault
 demo_over n [] = Ok (Tell (Demo n))
@@ -174,7 +157,7 @@ demo_number (Some n) more = demo_over n more
 -- the words behind `demo`
 abbrev pub demo_words : List (List ℕ) → Result Asked UsageFault
 demo_words [] = Err (bad_word 2 MissingWord)
-demo_words (word ∷ more) = demo_number (number_of word) more
+demo_words (word ∷ more) = demo_number (number_up_to (2 ^ 64 - 1) word) more
 
 -- ---- all commands
 

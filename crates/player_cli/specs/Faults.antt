@@ -13,6 +13,7 @@ use Rattle.player_cli.specs.declared.outcome.Which.TheVariants.{Script, Media}
 use Rattle.player_cli.specs.declared.outcome.Outcome.{Outcome}
 use Rattle.player_cli.specs.declared.outcome.Outcome.TheVariants.{Played, Done, Usage, ScriptRefused, MediaRefused, TooLarge, ReadFault, WriteFault, OutOfMemory}
 
+-- the exit status of each outcome
 abbrev pub status_of : Outcome → ℕ
 status_of Played = 0
 status_of Done = 0
@@ -24,6 +25,7 @@ status_of ReadFault = 6
 status_of WriteFault = 7
 status_of OutOfMemory = 8
 
+-- the name of what is wrong with a word
 abbrev pub usage_name : UsageKind → List ℕ
 usage_name MissingCommand = codes "MissingCommand"
 usage_name UnknownCommand = codes "UnknownCommand"
@@ -35,7 +37,7 @@ usage_name BadHex = codes "BadHex"
 usage_name EmptyName = codes "EmptyName"
 usage_name NameClash = codes "NameClash"
 
--- a kind is written as its name
+-- the name of a broken rule of a script
 abbrev pub script_name : ScriptKind → List ℕ
 script_name script.NotUtf8 = codes "NotUtf8"
 script_name script.Header = codes "Header"
@@ -51,6 +53,7 @@ script_name script.Hex = codes "Hex"
 script_name script.Number = codes "Number"
 script_name script.ClockBack = codes "ClockBack"
 
+-- the name of a broken rule of media
 abbrev pub media_name : MediaKind → List ℕ
 media_name media.Short = codes "Short"
 media_name media.SizeTooSmall = codes "SizeTooSmall"
@@ -88,9 +91,11 @@ media_name media.TrackId = codes "TrackId"
 media_name media.Hex = codes "Hex"
 media_name media.Kid = codes "Kid"
 
+-- the line of a bad word
 abbrev pub usage_text : UsageFault → List ℕ
 usage_text fault = codes "usage: word " ++ (decimal fault.place ++ (codes ": " ++ (usage_name fault.kind ++ codes "\n")))
 
+-- the line of a file that is too large
 abbrev pub large_text : Which → ℕ → List ℕ
 large_text Script limit = codes "too large: script: limit " ++ (decimal limit ++ codes "\n")
 large_text Media limit = codes "too large: media: limit " ++ (decimal limit ++ codes "\n")

@@ -1,5 +1,5 @@
 // What an outcome means to the outside: an exit status and a line on standard error.
-ghost use Rattle.std.specs.Prelude.{◌≡◌, IfOk, codes, string_bytes};
+ghost use Rattle.std.specs.Prelude.{◌≡◌, IfOk, string_bytes};
 ghost use Rattle.player_cli.specs.Faults.{status_of, text_of, usage_name, script_name, media_name};
 
 use crate::outcome::{Outcome, UsageFault, UsageKind, Which};

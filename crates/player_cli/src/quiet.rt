@@ -1,12 +1,11 @@
 // The words of the commands that play no files.
-ghost use Rattle.std.specs.Prelude.{◌≡◌, map, string_bytes, is_some, MatchResult, Ok, Err};
-ghost use Rattle.std.specs.List.{list_all};
-ghost use Rattle.hex.specs.Hex.{is_hex_digit};
-ghost use Rattle.player_cli.specs.Command.{quiet_command, inspect_words, request_words, demo_words, kind_of, hex_bytes, is_number, number_of, Tell, Inspect, Demo, IsRequested, IsQuiet};
+ghost use Rattle.std.specs.Prelude.{◌≡◌, map, string_bytes, MatchResult, Ok, Err};
+ghost use Rattle.player_cli.specs.Command.{quiet_command, inspect_words, request_words, demo_words, kind_of, Tell, Inspect, Demo, IsRequested, IsQuiet};
 
 use crate::outcome::{UsageFault, UsageKind};
-use crate::words::{all_decimal, bad_word, next_word};
+use crate::words::{bad_word, next_word};
 use eme_types::InitKind;
+use text_words::{is_hex, number_up_to};
 
 /// What the words of a request ask for. The hexadecimal word is in its form.
 #[derive(Clone, Copy)]
@@ -35,28 +34,6 @@ fn kind_of(word: &str) -> Option<InitKind>
         return Some(InitKind::Keyids);
     }
     None
-}
-
-fn is_digit(byte: u8) -> bool
-    ensures { result ≡ is_hex_digit byte }
-{
-    byte.is_ascii_hexdigit()
-}
-
-fn all_digits(word: &[u8]) -> bool
-    ensures { result ≡ list_all is_hex_digit word.now }
-{
-    word.iter().all(|byte| is_digit(*byte))
-}
-
-/// Whether the word is pairs of hexadecimal digits. It takes no memory, so that words outside the grammar are told for certain.
-fn is_hex(word: &str) -> bool
-    ensures { result ≡ is_some (hex_bytes word.now) }
-{
-    if word.len() % 2 != 0 {
-        return false;
-    }
-    all_digits(word.as_bytes())
 }
 
 /// Reads the words from left to right. `play` is none of these commands.
@@ -116,7 +93,7 @@ fn read_request(words: &[String]) -> Result<RequestWords<'_>, UsageFault>
     let Some((hex, rest)) = next_word(rest) else {
         return Err(bad_word(3, UsageKind::MissingWord));
     };
-    if !is_hex(hex) {
+    if !is_hex(hex.as_bytes()) {
         return Err(bad_word(3, UsageKind::BadHex));
     }
     match next_word(rest) {
@@ -132,31 +109,11 @@ fn read_demo(words: &[String]) -> Result<u64, UsageFault>
     let Some((word, rest)) = next_word(words) else {
         return Err(bad_word(2, UsageKind::MissingWord));
     };
-    let Some(n) = number_of(word) else {
+    let Some(n) = number_up_to(u64::MAX, word.as_bytes()) else {
         return Err(bad_word(2, UsageKind::BadNumber));
     };
     match next_word(rest) {
         None => Ok(n),
         Some(_) => Err(bad_word(3, UsageKind::ExtraWord)),
     }
-}
-
-/// The number that a word writes.
-fn number_of(word: &str) -> Option<u64>
-    ensures { result ≡ number_of word.now }
-{
-    if !is_number(word.as_bytes()) {
-        return None;
-    }
-    match word.parse::<u64>() {
-        Ok(n) => Some(n),
-        Err(_) => None,
-    }
-}
-
-/// Decimal digits, without leading zeros unless the number is 0.
-fn is_number(word: &[u8]) -> bool
-    ensures { result ≡ is_number word.now }
-{
-    !word.is_empty() && all_decimal(word) && (word.len() == 1 || word[0] != b'0')
 }

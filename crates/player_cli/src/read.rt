@@ -4,9 +4,10 @@ ghost use Rattle.player_cli.specs.ReadAll.{LeavesShelf, ReadEnds, end_of};
 
 use eme_edge::{Shelf, ShelfFault};
 use eme_types::Bytes;
-use std::alloc::Global;
+use std::alloc::{AllocError, Global};
 
-const PIECE: usize = 4096;
+/// Bytes of one read.
+const PIECE: usize = 1_048_576;
 
 /// Why a file was not read.
 #[derive(Clone, Copy, Debug, PartialEq, Eq)]
@@ -27,6 +28,13 @@ fn end_of(fault: ShelfFault) -> ReadEnd
     }
 }
 
+/// Bytes to read into.
+fn room_for(alloc: Global, size: usize) -> Result<Vec<u8>, AllocError>
+    ensures { IfOk result (λ room. length room.items ≡ size) }
+{
+    vec![in alloc; 0u8; size]
+}
+
 /// Tests the size with one read of one byte at the limit, and reads the file.
 pub fn read_whole<S: Shelf>(
     alloc: Global,
@@ -35,6 +43,27 @@ pub fn read_whole<S: Shelf>(
     limit: u64,
 ) -> Result<Bytes, ReadEnd>
     requires { limit < 2 ^ 63 }
+    ensures bytes { IfOk result (λ b. IsTrue (S.state shelf.old).tells_files → (S.state shelf.old).file name.now ≡ Some b) }
+    ensures limit { IfOk result (λ b. length b ≤ limit) }
+    ensures end { IfErr result (λ end. ReadEnds end (S.state shelf.old) (S.state shelf.new) name.now limit) }
+    ensures shelf { LeavesShelf (S.state shelf.old) (S.state shelf.new) }
+{
+    let Ok(mut piece) = room_for(alloc, PIECE) else {
+        return Err(ReadEnd::OutOfMemory);
+    };
+    read_pieces(alloc, shelf, name, limit, piece.as_mut_slice())
+}
+
+/// The same by pieces of a length.
+fn read_pieces<S: Shelf>(
+    alloc: Global,
+    shelf: &mut S,
+    name: &str,
+    limit: u64,
+    piece: &mut [u8],
+) -> Result<Bytes, ReadEnd>
+    requires fits { limit < 2 ^ 63 }
+    requires some { 0 < length piece.old }
     ensures bytes { IfOk result (λ b. IsTrue (S.state shelf.old).tells_files → (S.state shelf.old).file name.now ≡ Some b) }
     ensures limit { IfOk result (λ b. length b ≤ limit) }
     ensures end { IfErr result (λ end. ReadEnds end (S.state shelf.old) (S.state shelf.new) name.now limit) }
@@ -49,8 +78,7 @@ pub fn read_whole<S: Shelf>(
     let mut out = Bytes::new(alloc);
     let limit = limit as usize;
     'pieces: while out.len() < limit {
-        let mut piece = [0u8; PIECE];
-        let n = match shelf.read(name, out.len() as u64, &mut piece) {
+        let n = match shelf.read(name, out.len() as u64, piece) {
             Ok(n) => n,
             Err(fault) => return Err(end_of(fault)),
         };

@@ -1,13 +1,15 @@
 // The command `request`: the licence request for initialization data, or the rejection.
 ghost use Rattle.std.specs.Prelude.{IfOk, IsSome};
 ghost use Rattle.init_data.specs.InitData.{kids_of};
-ghost use Rattle.player_cli.specs.Command.{hex_bytes, data_of};
+ghost use Rattle.text_words.specs.Hexadecimal.{hex_bytes};
+ghost use Rattle.player_cli.specs.Command.{data_of};
 ghost use Rattle.player_cli.specs.Told.{IsAnswer};
 
 use clearkey_json::request_text;
 use eme_types::{Bytes, InitKind};
 use init_data::{InitFault, kids_of};
 use std::alloc::{AllocError, Global};
+use text_words::hex_bytes;
 
 /// The request text and a line feed, or the line of the rejection.
 fn answer_text(alloc: Global, kind: InitKind, bytes: &[u8]) -> Result<Bytes, AllocError>
@@ -26,13 +28,12 @@ fn answer_text(alloc: Global, kind: InitKind, bytes: &[u8]) -> Result<Bytes, All
 }
 
 /// The answer to a request for initialization data of that type, given in hexadecimal digits.
-#[tactic(auto, unfolding(crate::specs::Command::hex_bytes))]
 pub fn answer(alloc: Global, kind: InitKind, hex: &str) -> Result<Bytes, AllocError>
     requires { IsSome (hex_bytes hex.now) }
     ensures { IfOk result (λ text. IsAnswer (kids_of kind (data_of hex.now)) text) }
 {
-    let Ok(bytes) = hex::decode(alloc, hex) else {
-        return Err(AllocError);
+    let Some(bytes) = hex_bytes(alloc, hex.as_bytes())? else {
+        unreachable!();
     };
     answer_text(alloc, kind, bytes.as_slice())
 }

@@ -1,10 +1,9 @@
 // The words of the command line.
 ghost use Rattle.std.specs.Prelude.{◌≡◌, [], ◌∷◌, map, string_bytes, MatchOption, MatchResult, IfOk, Ok, Err};
-ghost use Rattle.std.specs.Char.{is_ascii_digit};
-ghost use Rattle.std.specs.List.{list_all};
-ghost use Rattle.player_cli.specs.Command.{command, quiet_command, play_words, media_words, prefix_words, play_end, is_ending, clashes, IsAsked, names_of};
+ghost use Rattle.player_cli.specs.Command.{command, quiet_command, play_words, media_words, prefix_words, play_end, is_ending, clashes, IsAsked};
 
 use crate::outcome::{UsageFault, UsageKind};
+use text_words::{are_digits, behind};
 
 /// What the words of a play ask for.
 #[derive(Clone, Copy)]
@@ -104,10 +103,10 @@ fn read_prefix_words<'a>(
 fn clashes(prefix: &str, name: &str) -> bool
     ensures { result ≡ clashes prefix.now name.now }
 {
-    let Some(rest) = name.as_bytes().strip_prefix(prefix.as_bytes()) else {
+    let Some(rest) = behind(prefix.as_bytes(), name.as_bytes()) else {
         return false;
     };
-    match rest.strip_prefix(b".") {
+    match behind(b".", rest) {
         None => false,
         Some(text) => is_ending(text),
     }
@@ -123,14 +122,7 @@ fn is_ending(text: &[u8]) -> bool
     if text.is_empty() {
         return false;
     }
-    all_decimal(text)
-}
-
-/// Whether the text is decimal digits alone.
-pub fn all_decimal(text: &[u8]) -> bool
-    ensures { result ≡ list_all is_ascii_digit text.now }
-{
-    text.iter().all(|byte| byte.is_ascii_digit())
+    are_digits(text)
 }
 
 /// What is wrong behind the prefix.

@@ -1,5 +1,5 @@
 // Texts into files.
-ghost use Rattle.std.specs.Prelude.{◌≡◌, ◌++◌, ◌⊎◌, [], OnOk, OnErr, IsTrue, Some, length};
+ghost use Rattle.std.specs.Prelude.{◌≡◌, ◌⊎◌, [], OnOk, OnErr, IsTrue, Some, length};
 ghost use Rattle.eme_edge.specs.Shelf.{OthersKept, TellsAlike};
 ghost use Rattle.player_cli.specs.Files.{HaveDistinctNames};
 ghost use Rattle.player_cli.specs.Written.{WritesCause, HoldsFront, FilesSoFar, StopsAtStart, StopsInText, IsWritten, IsStopped};

@@ -1,5 +1,5 @@
 use Rattle.player_cli.specs.Command.{names_of}
-use Rattle.player_cli.proofs.EndLemmas.{no_media, play_ends}
+use Rattle.player_cli.proofs.CommandEnds.{no_media, play_ends}
 use Rattle.player_cli.proofs.play.play_files.Goals as goal
 
 pub returns-in-Err-media_in : goal.returns-in-Err-media_in

@@ -1,4 +1,4 @@
-use Rattle.player_cli.proofs.AnswerLemmas.{some_kids}
+use Rattle.player_cli.proofs.SomeKids.{some_kids}
 use Rattle.player_cli.proofs.request.answer_text.Goals as goal
 
 pub request_text-requires : goal.request_text-requires

@@ -1,7 +1,7 @@
 use Rattle.std.proofs.Common.{ℕ, List, sym, subst}
 use Rattle.player_cli.specs.Command.{query_of}
 use Rattle.player_cli.specs.Told.{IsText}
-use Rattle.player_cli.proofs.EndLemmas.{text_ends}
+use Rattle.player_cli.proofs.CommandEnds.{text_ends}
 use Rattle.player_cli.proofs.tell.tell.Goals as goal
 
 pub returns : goal.returns

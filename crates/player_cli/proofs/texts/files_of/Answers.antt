@@ -1,7 +1,7 @@
 use Rattle.std.proofs.Common.{◌≡◌, ◌<◌, ◌^◌, List, ℕ, get_or, subst, sym, arith, rules}
 use Rattle.player_cli.specs.FileText.{FileText}
 use Rattle.player_cli.specs.Files.{log_file, track_file, HaveDistinctNames}
-use Rattle.player_cli.proofs.NameLemmas.{distinct_names, files_more, files_all}
+use Rattle.player_cli.proofs.DistinctNames.{distinct_names, files_more, files_all}
 use Rattle.player_cli.proofs.texts.files_of.Goals as goal
 
 pub loop-id-init : goal.loop-id-init

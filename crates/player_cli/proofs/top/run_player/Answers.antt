@@ -1,7 +1,7 @@
 use Rattle.std.proofs.Common.{map}
 use Rattle.std.specs.Prelude.{string_bytes}
 use Rattle.player_cli.specs.Command.{command}
-use Rattle.player_cli.proofs.Complete.{done_whole}
+use Rattle.player_cli.proofs.DoneWhole.{done_whole}
 use Rattle.player_cli.proofs.top.run_player.Goals as goal
 
 pub returns-clause-complete : goal.returns-clause-complete

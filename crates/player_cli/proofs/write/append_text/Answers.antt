@@ -1,5 +1,5 @@
 use Rattle.std.proofs.lemmas.Result.{err_from_is_err_and}
-use Rattle.player_cli.proofs.Writes.{writing_on, front_on}
+use Rattle.player_cli.proofs.TextsAppended.{writing_on, front_on}
 use Rattle.player_cli.proofs.write.append_text.Goals as goal
 
 pub loop-rest-preserved : goal.loop-rest-preserved

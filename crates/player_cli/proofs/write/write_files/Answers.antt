@@ -3,7 +3,7 @@ use Rattle.std.proofs.lemmas.List.{get_or_default}
 use Rattle.std.proofs.lemmas.Result.{err_from_is_err_and}
 use Rattle.player_cli.specs.FileText.{FileText}
 use Rattle.player_cli.specs.Files.{file_at}
-use Rattle.player_cli.proofs.FileLemmas.{files_on, stops_at_start, stops_in_text}
+use Rattle.player_cli.proofs.FilesWritten.{files_on, stops_at_start, stops_in_text}
 use Rattle.player_cli.proofs.write.write_files.Goals as goal
 
 pub files-preserved : goal.files-preserved

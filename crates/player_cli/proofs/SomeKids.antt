@@ -1,4 +1,4 @@
--- The answer to a request.
+-- Key ids that are read are at least one.
 use Rattle.std.proofs.Common.{◌≡◌, ◌<◌, ℕ, List, [], ◌∷◌, length, refl, ap, arith}
 use Rattle.std.specs.Prelude.{not, filter, bytes_eq, Result, Ok, Err}
 use Rattle.eme_types.specs.declared.media.InitKind.{InitKind}

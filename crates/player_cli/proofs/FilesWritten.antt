@@ -7,7 +7,7 @@ use Rattle.eme_edge.specs.declared.shelf.ShelfFault.{ShelfFault}
 use Rattle.player_cli.specs.FileText.{FileText}
 use Rattle.player_cli.specs.Files.{file_at, HaveDistinctNames}
 use Rattle.player_cli.specs.Written.{WritesCause, HasTexts, KeepsOthers, FilesSoFar, StopsAtStart, StopsInText, HoldsFront}
-use Rattle.player_cli.proofs.Writes.{tells_on}
+use Rattle.player_cli.proofs.TextsAppended.{tells_on}
 
 -- one more file was touched
 keeps_on : (old mid new : Files) (files : List FileText) (i : ℕ) → KeepsOthers old mid files i → OthersKept mid new (file_at files i).name → KeepsOthers old new files (i + 1)

@@ -1,16 +1,16 @@
 -- Files that are read one after another.
-use Rattle.std.proofs.Common.{◌≡◌, inl, inr, ℕ, List, sym, subst, ◌∙◌, le_trans, arith}
+use Rattle.std.proofs.Common.{inl, inr, ℕ, List, sym, subst, ◌∙◌, le_trans, arith}
 use Rattle.std.specs.Prelude.{IsTrue}
 use Rattle.eme_types.specs.declared.media.Media.{Media}
 use Rattle.eme_edge.specs.Shelf.{ShelfState}
 use Rattle.player_cli.specs.ReadAll.{LeavesShelf, HasMore, ReadsCause, ReadEnds}
-use Rattle.player_cli.specs.Inputs.{MediaRead, MediaFails, MediaEnds}
+use Rattle.player_cli.specs.Inputs.{MediaRead, MediaEnds}
 use Rattle.player_cli.specs.Written.{IsUntouched}
 use Rattle.player_cli.specs.declared.read.ReadEnd.{ReadEnd}
 use Rattle.player_cli.specs.declared.read.ReadEnd.TheVariants.{TooLarge, Fault, OutOfMemory}
 use Rattle.player_cli.specs.declared.end.MediaEnd.{MediaEnd}
 use Rattle.player_cli.specs.declared.end.MediaEnd.TheVariants.{Unread, Refused}
-use Rattle.player_cli.proofs.Writes.{tells_on}
+use Rattle.player_cli.proofs.TextsAppended.{tells_on}
 
 -- reading changes no file and says nothing
 pub untouched_by_reading : (old new : ShelfState) → LeavesShelf old new → IsUntouched old new

@@ -1,9 +1,9 @@
--- A run of appends.
+-- What a run of appends has written is a front of the text.
 use Rattle.std.proofs.Common.{◌≡◌, ◌≤◌, ℕ, ◌+◌, min, List, ◌++◌, length, take, drop, Some, None, Option, ap, sym, ◌∙◌, arith, append_assoc, length-append}
 use Rattle.std.specs.Prelude.{IsTrue, Result}
 use Rattle.std.proofs.lemmas.List.{take-append-drop, take_min, take-append-le}
 use Rattle.std.proofs.Math.Seq.{take-append-add}
-use Rattle.eme_edge.specs.Shelf.{ShelfState, OthersKept, TellsAlike, WriteCause, HoldsMore, HoldsPart, Rose}
+use Rattle.eme_edge.specs.Shelf.{ShelfState, OthersKept, TellsAlike, WriteCause, HoldsMore, HoldsPart}
 use Rattle.eme_edge.specs.declared.shelf.ShelfFault.{ShelfFault}
 use Rattle.player_cli.specs.Written.{IsWriting, HoldsFront}
 
@@ -23,9 +23,6 @@ writing_on old mid new name text rest piece after n result w front back file oth
       later = omega (arith, w.later, cause.later);
       reads = cause.reads ∙ w.reads;
     }
-
-pub rose_on : (a b c : ℕ) → a ≤ b → Rose b c → Rose a c
-rose_on a b c le rose = omega (arith, le, rose)
 
 -- a front of the text and a part of the piece that follows are a front of the text
 front_plain : (part rest text piece after : List ℕ) (file : Option (List ℕ)) → part ++ rest ≡ text → piece ++ after ≡ rest → HoldsPart (Some part) piece file → HoldsFront text file

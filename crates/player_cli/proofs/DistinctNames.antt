@@ -1,24 +1,20 @@
 -- The files of a history have distinct names.
-use Rattle.std.proofs.Common.{◌≡◌, ◌≢◌, ◌≤◌, ◌<◌, ℕ, zero, suc, ◌+◌, ◌^◌, List, [], ◌∷◌, ◌++◌, length, take, get_or, map, Bool, true, false, ap, sym, ◌∙◌, arith}
-use Rattle.std.specs.Prelude.{IsTrue, codes, ◌==◌, ◌||◌}
+use Rattle.std.proofs.Common.{◌≡◌, ◌≢◌, ◌≤◌, ◌<◌, ℕ, zero, suc, ◌+◌, ◌^◌, List, [], ◌∷◌, ◌++◌, length, take, get_or, map, true, false, ap, sym, ◌∙◌, arith}
+use Rattle.std.specs.Prelude.{IsTrue, codes, ◌==◌}
 use Rattle.std.specs.Fmt.{decimal}
 use Rattle.std.proofs.lemmas.List.{append_cancel_left, get_or-map, length-map, take_all, take_more, map-append}
 use Rattle.std.proofs.lemmas.Fmt.{decimal_injective, decimal_is_IsNumeral}
-use Rattle.std.proofs.lemmas.Bool.{and_parts, not-true}
+use Rattle.std.proofs.lemmas.Bool.{and_parts, not-true, or_parts}
 use Rattle.eme_types.specs.declared.entry.Entry.{Entry}
 use Rattle.eme_types.specs.Fed.{are_distinct, is_among}
 use Rattle.player_cli.specs.FileText.{FileText}
 use Rattle.player_cli.specs.Files.{log_name, track_name, track_file, files_of, file_at, HaveDistinctNames}
 
-none_behind : (a b : Bool) → (a || b) ≡ false → b ≡ false
-none_behind true b e = absurd cc
-none_behind false b e = e
-
 -- a number that is not among them is none of them
 is_none_of : (ids : List ℕ) (x k : ℕ) → is_among ids x ≡ false → k < length ids → get_or ids k 0 ≢ x
 is_none_of [] x k none lt same = omega arith
 is_none_of (id ∷ ids) x zero none lt same = grind (arith, none, same)
-is_none_of (id ∷ ids) x (suc k) none lt same = is_none_of ids x k (none_behind (id == x) (is_among ids x) none) (omega arith) same
+is_none_of (id ∷ ids) x (suc k) none lt same = is_none_of ids x k (or_parts (id == x) (is_among ids x) none).1 (omega arith) same
 
 -- distinct numbers stand at distinct places
 distinct_at : (ids : List ℕ) (i j : ℕ) → are_distinct ids ≡ true → i < j → j < length ids → get_or ids i 0 ≢ get_or ids j 0

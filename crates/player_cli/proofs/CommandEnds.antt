@@ -18,8 +18,8 @@ use Rattle.player_cli.specs.Written.{WritesCause, IsWritten, IsStopped, KeepsOth
 use Rattle.player_cli.specs.declared.end.End.TheVariants.{Refused}
 use Rattle.player_cli.specs.declared.end.MediaEnd.{MediaEnd}
 use Rattle.player_cli.specs.declared.end.Refusal.TheVariants.{Media as NoMedia}
-use Rattle.player_cli.proofs.InputLemmas.{untouched_by_reading, both_leave, media_read_before, media_ends_before}
-use Rattle.player_cli.proofs.Writes.{tells_on}
+use Rattle.player_cli.proofs.ReadInOrder.{untouched_by_reading, both_leave, media_read_before, media_ends_before}
+use Rattle.player_cli.proofs.TextsAppended.{tells_on}
 
 -- reading changed nothing that writing looks at
 module _ (old mid new : ShelfState) (kept : LeavesShelf old mid) (files : List FileText) (text : List ℕ) where

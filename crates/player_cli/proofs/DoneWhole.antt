@@ -1,6 +1,6 @@
 -- What is asked for is done whole, or memory is missing.
-use Rattle.std.proofs.Common.{◌≡◌, ◌≤◌, ◌⊎◌, inl, inr, ℕ, List, [], ◌∷◌, length, Some, refl, ap, sym, ◌∙◌, arith}
-use Rattle.std.specs.Prelude.{IsTrue, Result, Ok, Err}
+use Rattle.std.proofs.Common.{◌≡◌, ◌⊎◌, inl, inr, ℕ, List, [], ◌∷◌, length, Some, refl, ap, sym, ◌∙◌, arith}
+use Rattle.std.specs.Prelude.{Result, Ok, Err}
 use Rattle.eme_edge.specs.Shelf.{ShelfState}
 use Rattle.eme_edge.specs.declared.shelf.ShelfFault.TheVariants.{Failed, OutOfMemory as NoMemory}
 use Rattle.script_lang.specs.Grammar.{script_of}
@@ -9,7 +9,7 @@ use Rattle.track_media.specs.File.{media_of}
 use Rattle.player_cli.specs.Command.{Asked}
 use Rattle.player_cli.specs.Ends.{read_outcome, script_outcome, media_outcome, refusal_outcome, outcome_of}
 use Rattle.player_cli.specs.Inputs.{Tells, Input, ScriptFile, MediaFile, ScriptEnds, MediaEnds, InputEnds, FirstEnds, HasFile, HasScript, HasMedia, HasInput, HasInputs}
-use Rattle.player_cli.specs.ReadAll.{HasMore, ReadEnds}
+use Rattle.player_cli.specs.ReadAll.{ReadEnds}
 use Rattle.player_cli.specs.Says.{done_of, all_inputs, EndSays, SaysOf, NoFault, IsDoneWhole}
 use Rattle.player_cli.specs.declared.end.ScriptEnd.{ScriptEnd}
 use Rattle.player_cli.specs.declared.end.ScriptEnd.TheVariants as script_end
@@ -25,18 +25,15 @@ use Rattle.player_cli.specs.declared.outcome.Which.{Which}
 use Rattle.player_cli.specs.declared.read.ReadEnd.{ReadEnd}
 use Rattle.player_cli.specs.declared.read.ReadEnd.TheVariants as read
 
-some_alone : {A : Type 0} (x y : A) → Some x ≡ Some y → x ≡ y
-some_alone x y e = cc
-
 module _ (s new : ShelfState) (calm : NoFault s new) where
   same_bytes : (name : List ℕ) (limit : ℕ) (has : HasFile s name limit) (bytes : List ℕ) → Tells s name bytes → bytes ≡ has.bytes
-  same_bytes name limit has bytes told = some_alone bytes has.bytes (sym (told has.tells) ∙ has.is)
+  same_bytes name limit has bytes told = let same : Some bytes ≡ Some has.bytes = sym (told has.tells) ∙ has.is in cc
 
   -- a file that is there is read
   is_read : (name : List ℕ) (limit : ℕ) (which : Which) → HasFile s name limit → (end : ReadEnd) → ReadEnds end s new name limit → read_outcome which limit end ≡ OutOfMemory
   is_read name limit which has read.TooLarge says =
       let more = says has.tells in
-      let same : more.0 ≡ has.bytes = some_alone _ _ (sym more.1 ∙ has.is) in
+      let same = same_bytes name limit has more.0 (λ _. more.1) in
       absurd (omega (arith, more.2, ap length same, has.small))
   is_read name limit which has read.Fault (inl rose) = absurd (calm.reads rose)
   is_read name limit which has read.Fault (inr gone) = let none = rw has.is at gone.1 in absurd (cc none)
