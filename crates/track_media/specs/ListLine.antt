@@ -1,5 +1,7 @@
 -- What one line of a sample list is, or the first rule that it breaks.
-use Rattle.std.specs.Prelude.{◌≡◌, ◌⊎◌, ◌≤◌, ◌<◌, ℕ, ◌==◌, nat_lt, Bool, true, false, not, if◌then◌else◌, List, [], ◌∷◌, length, codes, Option, Some, None, Result, Ok, Err, bytes_eq}
+use Rattle.std.specs.Prelude.{◌≡◌, ◌≤◌, ◌<◌, ℕ, ◌==◌, nat_lt, Bool, true, false, not, if◌then◌else◌, List, [], ◌∷◌, length, codes, Option, Some, None, Result, Ok, Err, bytes_eq}
+use Rattle.eme_types.specs.FirstFault as first
+use Rattle.eme_types.specs.FirstFault.{◌>>=◌}
 use Rattle.eme_types.specs.declared.sample.EncSample.{EncSample}
 use Rattle.eme_types.specs.declared.sample.Scheme.{Scheme}
 use Rattle.eme_types.specs.declared.sample.Scheme.TheVariants.{Cenc, Cbcs}
@@ -19,39 +21,39 @@ use Rattle.track_media.specs.declared.line.Known.{Known}
 use Rattle.track_media.specs.declared.line.Mode.{Mode}
 use Rattle.track_media.specs.Text.{words_of, has_empty_word, track_id, pattern_in, subs_in, data_in, kid_in, iv_in, init_kind}
 
+-- memory ran out
+abbrev pub WantsMemory : LineFault → Type 0
+WantsMemory e = e ≡ OutOfMemory
+
 -- what a reader returned is what the definition says, unless memory ran out
 abbrev pub Gives : {A : Type 0} → Result A LineFault → Result A LineFault → Type 0
-Gives (Ok x) read = read ≡ Ok x
-Gives (Err e) read = (e ≡ OutOfMemory) ⊎ (read ≡ Err e)
+Gives answer read = first.Gives WantsMemory (λ x. x) answer read
 
-infixl 10 ◌>>=◌
-abbrev pub ◌>>=◌ : {A B : Type 0} → Result A LineFault → (A → Result B LineFault) → Result B LineFault
-(Ok x) >>= f = f x
-(Err e) >>= f = Err e
-
+-- a line that breaks this rule
 abbrev pub broken : {A : Type 0} → MediaKind → Result A LineFault
 broken rule = Err (Broken rule)
 
 -- what there has to be, else this rule is broken
 abbrev pub required : {A : Type 0} → MediaKind → Option A → Result A LineFault
-required rule None = broken rule
-required rule (Some x) = Ok x
+required rule what = first.required (Broken rule) what
 
 -- what has to hold, else this rule is broken
 abbrev pub holds : MediaKind → Bool → Result (Unit {0}) LineFault
-holds rule test = if test then Ok tt else broken rule
+holds rule test = first.demanded (Broken rule) test
 
 -- the one word, or two of them
 abbrev pub one_word : List (List ℕ) → Option (List ℕ)
 one_word (word ∷ []) = Some word
 one_word _ = None
 
+-- the two words
 abbrev pub two_words : List (List ℕ) → Option (List ℕ × List ℕ)
 two_words (first ∷ second ∷ []) = Some (first, second)
 two_words _ = None
 
 -- ---- `track <id>`
 
+-- a track that is new, before the first fragment
 unfoldable pub track_line : Known → List (List ℕ) → Result ListLine LineFault
 track_line known words = do
   word ← required Line (one_word words)
@@ -63,12 +65,14 @@ track_line known words = do
 
 -- ---- `fragment`
 
+-- no further word
 abbrev pub fragment_line : List (List ℕ) → Result ListLine LineFault
 fragment_line [] = Ok a.Fragment
 fragment_line (word ∷ more) = broken Line
 
 -- ---- `init <type> <hex>`
 
+-- initialization data inside a fragment
 unfoldable pub init_line : Known → List (List ℕ) → Result ListLine LineFault
 init_line known words = do
   pair ← required Line (two_words words)
@@ -87,11 +91,13 @@ sample_data known word = do
   all ← holds TooManyBytes (not (nat_lt known.bytes (length bytes)))
   Ok bytes
 
+-- the part of 'well formed' that a sample does not meet
 abbrev pub kind_of : SampleFault → MediaKind
 kind_of unfit.Sum = SubsSum
 kind_of unfit.IvSize = IvSize
 kind_of unfit.Pattern = Pattern
 
+-- the line, unless its sample is not well formed
 abbrev pub unless : Result (Unit {0}) SampleFault → ListLine → Result ListLine LineFault
 unless (Ok fine) line = Ok line
 unless (Err fault) line = broken (kind_of fault)
@@ -104,6 +110,7 @@ formed id sample = unless (first_fault sample) (a.Sample id sample)
 abbrev pub known_track : Known → ℕ → Result (Unit {0}) LineFault
 known_track known id = holds TrackId (is_among known.tracks id)
 
+-- a sample without protection
 unfoldable pub clear_line : Known → ℕ → List (List ℕ) → Result ListLine LineFault
 clear_line known id words = do
   word ← required Line (one_word words)
@@ -118,6 +125,7 @@ pub record Protection : Type 0 where
   pub subs : List ℕ
   pub «data» : List ℕ
 
+-- the four words
 abbrev pub four_words : List (List ℕ) → Option Protection
 four_words (kid ∷ iv ∷ subs ∷ bytes ∷ []) = Some (record { kid = kid; iv = iv; subs = subs; «data» = bytes })
 four_words _ = None
@@ -127,9 +135,11 @@ abbrev pub five_words : List (List ℕ) → Option (Protection × List ℕ)
 five_words (kid ∷ iv ∷ pattern ∷ subs ∷ bytes ∷ []) = Some (record { kid = kid; iv = iv; subs = subs; «data» = bytes }, pattern)
 five_words _ = None
 
+-- a scheme with its pattern
 abbrev pub mode_of : Scheme → ℕ × ℕ → Mode
 mode_of scheme pattern = record { scheme = scheme; crypt = pattern.0; skip = pattern.1 }
 
+-- a sample with protection
 unfoldable pub protected_line : Known → ℕ → Mode → Protection → Result ListLine LineFault
 protected_line known id mode words = do
   subs ← required Line (subs_in words.subs)
@@ -139,11 +149,13 @@ protected_line known id mode words = do
   bytes ← sample_data known words.«data»
   formed id (record { protect = Some (record { scheme = mode.scheme; kid = kid; iv = iv; crypt = mode.crypt; skip = mode.skip; subs = subs }); bytes = bytes })
 
+-- the words of a cenc sample (ISO/IEC 23001-7 section 10.1)
 unfoldable pub cenc_line : Known → ℕ → List (List ℕ) → Result ListLine LineFault
 cenc_line known id words = do
   protection ← required Line (four_words words)
   protected_line known id (mode_of Cenc (0, 0)) protection
 
+-- the words of a cbcs sample (ISO/IEC 23001-7 section 10.4)
 unfoldable pub cbcs_line : Known → ℕ → List (List ℕ) → Result ListLine LineFault
 cbcs_line known id words = do
   protection ← required Line (five_words words)
@@ -158,6 +170,7 @@ scheme_line known id scheme words =
     else if bytes_eq scheme (codes "cbcs") then cbcs_line known id words
     else broken Line
 
+-- a sample of any kind
 unfoldable pub sample_line : Known → List (List ℕ) → Result ListLine LineFault
 sample_line known (word ∷ scheme ∷ words) = do
   id ← required Line (track_id word)

@@ -42,6 +42,7 @@ fragment_at file movie room b = do
 
 -- ---- a box at the top level
 
+-- the type of a box at the top level
 unfoldable pub top_box : List ℕ → TopBox
 top_box kind = if bytes_eq kind (codes "moov") then top.Moov else if bytes_eq kind (codes "moof") then top.Moof else top.Other
 
@@ -55,11 +56,13 @@ abbrev pub moof_part : List ℕ → Option KnownMovie → Room → Found → Res
 moof_part file None room b = Err (Refused b.place NoMoov)
 moof_part file (Some m) room b = fragment_at file m room b >>= λ f. Ok (part.Fragment f)
 
+-- what is read of a box of this type
 abbrev pub top_part_as : TopBox → List ℕ → Seen → Found → Result TopPart MediaFault
 top_part_as top.Moov file seen b = moov_part file seen.movie b
 top_part_as top.Moof file seen b = moof_part file seen.movie seen.room b
 top_part_as top.Other file seen b = Ok part.Other
 
+-- what is read of a box
 abbrev pub top_part_at : List ℕ → Seen → Found → Result TopPart MediaFault
 top_part_at file seen b = top_part_as (top_box b.kind) file seen b
 
@@ -100,6 +103,7 @@ abbrev pub with_first : List InitData → List Fragment → List Fragment
 with_first inits [] = []
 with_first inits (f ∷ fs) = record f { inits = inits ++ f.inits } ∷ fs
 
+-- the media of a movie and its fragments
 abbrev pub media_from : List ℕ → Option KnownMovie → List Fragment → Media
 media_from file movie fragments = record { tracks = tracks_of movie; fragments = with_first (movie_inits file movie) fragments }
 
@@ -107,8 +111,10 @@ media_from file movie fragments = record { tracks = tracks_of movie; fragments =
 abbrev pub media_of_parts : List ℕ → List TopPart → Media
 media_of_parts file parts = media_from file (movie_in parts) (fragments_in parts)
 
+-- one more part
 abbrev pub followed_by : List TopPart → TopPart → List TopPart
 followed_by before p = before ++ p ∷ []
 
+-- the media of a file, or its first broken rule
 unfoldable pub mp4_media : List ℕ → Result Media MediaFault
 mp4_media file = all_knowing header_fault (λ before b. top_part_at file (seen_from before) b) followed_by [] (walk file 0 true) >>= λ parts. Ok (media_of_parts file parts)

@@ -39,6 +39,7 @@ frag_kind frag.Progressive = Some media.Progressive
 frag_kind frag.NoTfhd = Some media.NoTfhd
 frag_kind frag.OutOfMemory = None
 
+-- a broken rule of a movie or a movie fragment
 abbrev pub frag_fault : FragFault → MediaFault
 frag_fault f = refused f.place (frag_kind f.kind)
 
@@ -67,6 +68,7 @@ aux_kind aux.IsProtected = Some media.IsProtected
 aux_kind aux.NoTenc = Some media.NoTenc
 aux_kind aux.OutOfMemory = None
 
+-- a broken rule of samples or of their protection
 abbrev pub aux_fault : AuxFault → MediaFault
 aux_fault f = refused f.place (aux_kind f.kind)
 

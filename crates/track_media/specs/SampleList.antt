@@ -43,6 +43,7 @@ track_samples track [] = []
 track_samples track (a.Sample id sample ∷ more) = if id == track then sample ∷ track_samples track more else track_samples track more
 track_samples track (_ ∷ more) = track_samples track more
 
+-- the line begins a fragment
 abbrev pub is_fragment : ListLine → Bool
 is_fragment a.Fragment = true
 is_fragment _ = false
@@ -61,6 +62,7 @@ sections (_ ∷ more) = sections more
 
 -- ---- the media
 
+-- the samples of a track in these lines
 abbrev pub part_of : List ListLine → ℕ → TrackPart
 part_of section track = record { track = track; samples = track_samples track section }
 
@@ -68,6 +70,7 @@ part_of section track = record { track = track; samples = track_samples track se
 abbrev pub fragment_of : List ℕ → List ListLine → Fragment
 fragment_of tracks section = record { inits = inits_of section; parts = filter has_samples (map (part_of section) tracks) }
 
+-- the media of all lines
 unfoldable pub media_from : List ListLine → Media
 media_from lines = record { tracks = tracks_of lines; fragments = map (fragment_of (tracks_of lines)) (sections lines) }
 
@@ -87,6 +90,7 @@ abbrev pub ◌>>=◌ : {A B : Type 0} → Result A MediaFault → (A → Result 
 (Ok x) >>= f = f x
 (Err e) >>= f = Err e
 
+-- a broken rule of the line at this place
 abbrev pub fault_at : ℕ → LineFault → MediaFault
 fault_at place (line.Broken kind) = Refused place kind
 fault_at place line.OutOfMemory = OutOfMemory
