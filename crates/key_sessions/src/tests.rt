@@ -1,6 +1,6 @@
 // The sessions by tables of lines: what each line does, and what it tells.
 use crate::{Sessions, StepFault};
-use eme_types::{AppCall, Bytes, Effect, Event, KeyBytes, KeyId, Settled, StatusList};
+use eme_types::{AppCall, Bytes, Effect, Event, KeyId, Settled, StatusList};
 use key_statuses::Picks;
 use std::alloc::{AllocError, Global};
 use std::str::from_utf8;
@@ -169,41 +169,116 @@ fn clock(sessions: &mut Sessions, moment: u64) -> Result<(), AllocError> {
     Ok(())
 }
 
-/// Does what a line says: a job, a task, every task, a moment or a call.
-fn act(alloc: Global, sessions: &mut Sessions, line: &str) -> Result<(), Fail> {
-    match cut(line) {
-        ("job", _) => sessions.job()?,
-        ("task", _) => {
+/// Runs up to nine tasks.
+fn run_tasks(sessions: &mut Sessions) -> Result<(), Fail> {
+    for _ in 0..9 {
+        if sessions.task_left() {
             sessions.task()?;
-        }
-        ("tasks", _) => {
-            for _ in 0..9 {
-                if sessions.task_left() {
-                    sessions.task()?;
-                }
-            }
-        }
-        ("clock", moment) => clock(sessions, moment.parse::<u64>()?)?,
-        _ => {
-            let call = call_of(alloc, line)?;
-            sessions.call(&call)?;
         }
     }
     Ok(())
+}
+
+/// Runs the front job or task. It is told whether there was one.
+fn step(sessions: &mut Sessions, job: bool) -> Result<bool, Fail> {
+    let fault = if job {
+        sessions.job().err()
+    } else {
+        sessions.task().err()
+    };
+    match fault {
+        None => Ok(true),
+        Some(StepFault::Empty) => Ok(false),
+        Some(fault) => Err(Fail::from(fault)),
+    }
+}
+
+/// A call, again and again.
+fn ask(alloc: Global, sessions: &mut Sessions, line: &str, times: u32) -> Result<(), Fail> {
+    let call = call_of(alloc, line)?;
+    for _ in 0..times {
+        sessions.call(&call)?;
+    }
+    Ok(())
+}
+
+/// The bytes of numbers with dots between them.
+fn kid_of(alloc: Global, numbers: &str) -> Result<KeyId, Fail> {
+    let mut bytes = Vec::new(alloc);
+    for number in numbers.split('.') {
+        bytes.push(number.parse::<u8>()?)?;
+    }
+    Ok(KeyId::new(alloc, bytes.as_slice())?)
+}
+
+/// The session and the first byte of the key that would be used.
+fn picked(alloc: Global, sessions: &Sessions, numbers: &str) -> Result<String, Fail> {
+    let kid = kid_of(alloc, numbers)?;
+    match sessions.choose(&kid) {
+        None => Ok(String::from_str(alloc, "no pick")?),
+        Some(pick) => {
+            let session = pick.session;
+            let first = pick.key.bytes[0];
+            Ok(format!(in alloc; "session {session} {first}")?)
+        }
+    }
+}
+
+/// Does what a line says, and tells what came of it: a job, a task, every task, a moment, a pick or a call.
+fn act(alloc: Global, sessions: &mut Sessions, line: &str) -> Result<String, Fail> {
+    let (verb, rest) = cut(line);
+    let did = match verb {
+        "pick" => return picked(alloc, sessions, rest),
+        "job" => step(sessions, true)?,
+        "task" => step(sessions, false)?,
+        "tasks" => {
+            run_tasks(sessions)?;
+            true
+        }
+        "clock" => {
+            clock(sessions, rest.parse::<u64>()?)?;
+            true
+        }
+        "64" => {
+            ask(alloc, sessions, rest, 64)?;
+            true
+        }
+        "many" => {
+            ask(alloc, sessions, many_keys(alloc, rest)?.as_str(), 1)?;
+            true
+        }
+        _ => {
+            ask(alloc, sessions, line, 1)?;
+            true
+        }
+    };
+    if did {
+        Ok(told(alloc, sessions)?)
+    } else {
+        Ok(String::from_str(alloc, "empty")?)
+    }
 }
 
 /// The first line that does not do what stands behind its arrow, with what it did.
 fn differing(alloc: Global, sessions: &mut Sessions, lines: &[u8]) -> Result<String, Fail> {
     for row in from_utf8(lines)?.lines() {
         if let Some((line, want)) = row.split_once(" -> ") {
-            act(alloc, sessions, line)?;
-            let text = told(alloc, sessions)?;
+            let text = act(alloc, sessions, line)?;
             if text.as_str() != want {
                 return Ok(format!(in alloc; "{line} -> {text}")?);
             }
         }
     }
     Ok(String::new(alloc))
+}
+
+/// Whether all lines of both tables do what they say, one after the other in new sessions.
+fn holds(alloc: Global, first: &[u8], second: &[u8]) -> Result<bool, Fail> {
+    let mut sessions = Sessions::new(alloc);
+    if !differing(alloc, &mut sessions, first)?.is_empty() {
+        return Ok(false);
+    }
+    Ok(differing(alloc, &mut sessions, second)?.is_empty())
 }
 
 const CALLS: &[u8] = br#"
@@ -247,6 +322,8 @@ job -> lost 1 .2; lost 1 .1; lost 1 .1.0
 task -> statuses 1; closed 1; promise 5 resolved
 task -> keystatuseschange 1
 task -> nothing
+job -> empty
+task -> empty
 "#;
 
 const LOST: &[u8] = br#"
@@ -275,7 +352,15 @@ keys a - AQ:K34VFiiu0qar9xWICc9PPA -> nothing
 job -> nothing
 "#;
 
+const EMPTY: &[u8] = br#"
+job -> empty
+task -> empty
+"#;
+
 const QUOTA: &[u8] = br#"
+many a -> nothing
+job -> nothing
+tasks -> nothing
 keys a - AAZZ:K34VFiiu0qar9xWICc9PPA -> nothing
 job -> nothing
 task -> promise 4 rejected Quota
@@ -284,44 +369,19 @@ job -> nothing
 task -> promise 5 resolved
 keys a - AA00:K34VFiiu0qar9xWICc9PPA -> nothing
 job -> lost 1 .0.13.52
+pick 0.13.53 -> session 1 0
+pick 0.13.52 -> session 1 43
+pick 0.6.89 -> no pick
 "#;
 
-/// A session that can be updated.
-fn callable(alloc: Global) -> Result<Sessions, Fail> {
-    let mut sessions = Sessions::new(alloc);
-    let _other = differing(alloc, &mut sessions, OPENED)?;
-    Ok(sessions)
-}
-
-#[test]
-fn calls_are_refused_for_the_first_cause(rt: HostRuntime) -> Result<(), Fail> {
-    let mut sessions = Sessions::new(rt.alloc());
-    assert!(rt; differing(rt.alloc(), &mut sessions, CALLS)?.is_empty());
-    Ok(())
-}
-
-#[test]
-fn a_session_is_opened_updated_and_closed(rt: HostRuntime) -> Result<(), Fail> {
-    let mut sessions = Sessions::new(rt.alloc());
-    assert!(rt; differing(rt.alloc(), &mut sessions, OPENED)?.is_empty());
-    assert!(rt; differing(rt.alloc(), &mut sessions, UPDATED)?.is_empty());
-    assert!(rt; !sessions.job_left());
-    assert_eq!(rt; sessions.job(), Err(StepFault::Empty));
-    assert!(rt; !sessions.task_left());
-    assert_eq!(rt; sessions.task(), Err(StepFault::Empty));
-    Ok(())
-}
-
-#[test]
-fn keys_are_lost_by_change_removal_and_time(rt: HostRuntime) -> Result<(), Fail> {
-    let mut sessions = callable(rt.alloc())?;
-    assert!(rt; differing(rt.alloc(), &mut sessions, LOST)?.is_empty());
-    Ok(())
-}
+const FULL: &[u8] = br#"
+64 create a temporary -> promise 64 resolved
+create a temporary -> promise 65 rejected Quota
+"#;
 
 /// An update with 256 key ids of three bytes each.
-fn many_keys(alloc: Global) -> Result<String, AllocError> {
-    let mut line = String::from_str(alloc, "keys a -")?;
+fn many_keys(alloc: Global, label: &str) -> Result<String, AllocError> {
+    let mut line = format!(in alloc; "keys {label} -")?;
     for n in 0..256u32 {
         write!(&mut line, " AA{n:02x}:AAAAAAAAAAAAAAAAAAAAAA")?;
     }
@@ -329,35 +389,32 @@ fn many_keys(alloc: Global) -> Result<String, AllocError> {
 }
 
 #[test]
+fn calls_are_refused_for_the_first_cause(rt: HostRuntime) -> Result<(), Fail> {
+    assert!(rt; holds(rt.alloc(), CALLS, EMPTY)?);
+    Ok(())
+}
+
+#[test]
+fn a_session_is_opened_updated_and_closed(rt: HostRuntime) -> Result<(), Fail> {
+    assert!(rt; holds(rt.alloc(), OPENED, UPDATED)?);
+    Ok(())
+}
+
+#[test]
+fn keys_are_lost_by_change_removal_and_time(rt: HostRuntime) -> Result<(), Fail> {
+    assert!(rt; holds(rt.alloc(), OPENED, LOST)?);
+    Ok(())
+}
+
+#[test]
 fn a_session_knows_256_key_ids(rt: HostRuntime) -> Result<(), Fail> {
-    let mut sessions = callable(rt.alloc())?;
-    let many = many_keys(rt.alloc())?;
-    act(rt.alloc(), &mut sessions, many.as_str())?;
-    act(rt.alloc(), &mut sessions, "job")?;
-    act(rt.alloc(), &mut sessions, "tasks")?;
-    assert!(rt; differing(rt.alloc(), &mut sessions, QUOTA)?.is_empty());
-    let known = KeyId::new(rt.alloc(), &[0, 13, 53])?;
-    let unknown = KeyId::new(rt.alloc(), &[0, 6, 89])?;
-    match sessions.choose(&known) {
-        Some(pick) => {
-            assert_eq!(rt; pick.session, 1);
-            assert_eq!(rt; pick.key, KeyBytes { bytes: [0; 16] });
-        }
-        None => assert!(rt; false, "no pick"),
-    }
-    assert!(rt; sessions.choose(&unknown).is_none());
+    assert!(rt; holds(rt.alloc(), OPENED, QUOTA)?);
     Ok(())
 }
 
 #[test]
 fn there_are_at_most_64_sessions(rt: HostRuntime) -> Result<(), Fail> {
-    let mut sessions = Sessions::new(rt.alloc());
-    for _ in 0..64 {
-        act(rt.alloc(), &mut sessions, "create a temporary")?;
-    }
-    let lines = b"create a temporary -> promise 65 rejected Quota";
-    assert!(rt; differing(rt.alloc(), &mut sessions, lines)?.is_empty());
-    sessions.keeps();
+    assert!(rt; holds(rt.alloc(), FULL, EMPTY)?);
     Ok(())
 }
 
@@ -366,9 +423,8 @@ fn an_event_has_its_room(rt: HostRuntime) -> Result<(), Fail> {
     let mut sessions = Sessions::new(rt.alloc());
     sessions.reserve_events(2)?;
     sessions.queue_event(Event::WaitingForKey { track: 7 });
-    let lines = b"task -> waitingforkey 7";
-    assert!(rt; differing(rt.alloc(), &mut sessions, lines)?.is_empty());
-    assert_eq!(rt; sessions.take_effects().len(), 1);
-    assert_eq!(rt; sessions.effects().len(), 0);
+    sessions.task()?;
+    assert_eq!(rt; sessions.take_step().effects.len(), 1);
+    assert_eq!(rt; sessions.take_effects().len(), 0);
     Ok(())
 }
