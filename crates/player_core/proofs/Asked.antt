@@ -3,6 +3,7 @@ use Rattle.std.proofs.Common.{zero, suc, ◌≡◌, ℕ, ◌+◌, List, [], ◌�
 use Rattle.std.specs.List.{flat_map, AllByRecursion}
 use Rattle.std.proofs.lemmas.List.Concat.{flat_map-append}
 use Rattle.eme_types.specs.declared.media.Fragment.{Fragment}
+use Rattle.cdm_world.proofs.ItemsAt.{get_left}
 use Rattle.eme_types.specs.declared.media.Media.{Media}
 use Rattle.eme_types.specs.declared.entry.Entry.{Entry}
 use Rattle.eme_types.specs.declared.entry.Entry.TheVariants.{Call, Job, Task, Tick, Feed, Claim, Deliver, GiveUp, Publish, PassClear, WaitForKey, Settle}
@@ -40,11 +41,6 @@ lines_asked (e ∷ h) =
 rest_lines : (left : List Fragment) → flat_map line_of (feed_rest left) ≡ []
 rest_lines [] = refl
 rest_lines (f ∷ left) = rest_lines left
-
-get_left : {A : Type 0} (xs ys : List A) (n : ℕ) (x : A) → slice_get xs n ≡ Some x → slice_get (xs ++ ys) n ≡ Some x
-get_left [] ys n x at = absurd cc
-get_left (y ∷ xs) ys zero x at = at
-get_left (y ∷ xs) ys (suc n) x at = get_left xs ys n x at
 
 abbrev feeds_by : Action → ℕ
 feeds_by (Ask call) = 0

@@ -1,8 +1,8 @@
 -- A play, one line on, and what follows the last line.
 use Rattle.std.proofs.Common.{zero, suc, ◌≡◌, ◌≢◌, ℕ, ◌+◌, ◌-◌, ◌≤◌, ◌<◌, Bool, false, IsTrue, List, [], ◌∷◌, ◌++◌, Option, Some, length, take, drop, slice_get, if◌then◌else◌, refl, ap, ◌∙◌, sym, subst, append-nil, append_assoc, arith}
 use Rattle.std.specs.List.{fold, AllByRecursion}
-use Rattle.std.specs.Prelude.{◌==◌, nat_le, ◌^◌}
-use Rattle.std.proofs.lemmas.Bool.{leb-true, eqb-true}
+use Rattle.std.specs.Prelude.{◌==◌, nat_le}
+use Rattle.std.proofs.lemmas.Bool.{leb-true, ltb-true, eqb-true}
 use Rattle.std.proofs.Math.Dec.{eqb-suc-zero}
 use Rattle.std.proofs.lemmas.List.{take_all, length-drop}
 use Rattle.std.proofs.lemmas.List.Sums.{fold-append}
@@ -10,6 +10,7 @@ use Rattle.eme_types.specs.declared.media.Fragment.{Fragment}
 use Rattle.eme_types.specs.declared.media.Media.{Media}
 use Rattle.eme_types.specs.declared.entry.Entry.{Entry}
 use Rattle.eme_types.specs.declared.entry.Entry.TheVariants.{Call, Job, Task, Tick, Feed, Claim, Deliver, GiveUp, Publish, PassClear, WaitForKey, Settle}
+use Rattle.eme_types.specs.declared.limits.TheConstants.{MAX_LANES, MAX_MOMENT}
 use Rattle.eme_types.specs.Fed.{IsFed, are_distinct}
 use Rattle.script_lang.specs.declared.script.Line.{Line}
 use Rattle.script_lang.specs.declared.script.Action.{Action}
@@ -77,7 +78,7 @@ ticks_back last number lane (Clock moment) given = refl
 ticks_back last number lane SettleAction given = refl
 
 fed_back : (media : Media) (left : List Fragment) (old new : Run) (number lane : ℕ) (action : Action) → IsTrue (lane_fits lane action) → Goes old new (entry_for number lane action (slice_get left 0)) → HasFed media left old → HasFed media (left_by left action) new
-fed_back media left old new number lane (Ask call) fits g fed = fed_kept media left old new (Call lane number call) g refl refl refl refl (leb-true lane 7 fits) fed
+fed_back media left old new number lane (Ask call) fits g fed = fed_kept media left old new (Call lane number call) g refl refl refl refl (ltb-true lane MAX_LANES fits) fed
 fed_back media left old new number lane FeedAction fits g fed = fed_more media left old new number g fed
 fed_back media left old new number lane (Clock moment) fits g fed = fed_kept media left old new (Tick number moment) g refl refl refl refl tt fed
 fed_back media left old new number lane SettleAction fits g fed = fed_kept media left old new (Settle number) g refl refl refl refl tt fed
@@ -89,7 +90,7 @@ fed_distinct media left r fed = ap are_distinct fed.tracks ∙ fed.valid.distinc
 may_do : (r : Run) (now : ℕ) (action : Action) (given : Option Fragment) → MayFeedNext r.tracks r.history given → NoneWaits r.history → IsTrue (are_distinct r.tracks) → (world r.tracks r.history).machine.moment ≡ now → IsTrue (moment_fits now action) → MayGo r action given
 may_do r now (Ask call) given may none distinct is fits = tt
 may_do r now FeedAction given may none distinct is fits = may
-may_do r now (Clock moment) given may none distinct is fits = subst (λ n. n ≤ moment) (sym is) (leb-true now moment (both_true (nat_le now moment) (nat_le moment (2 ^ 53)) fits).0)
+may_do r now (Clock moment) given may none distinct is fits = subst (λ n. n ≤ moment) (sym is) (leb-true now moment (both_true (nat_le now moment) (nat_le moment MAX_MOMENT) fits).0)
 may_do r now SettleAction given may none distinct is fits = (none, distinct)
 
 -- what the next line needs is there
@@ -112,9 +113,6 @@ gone_more script media n left old new line s at g gone =
       moment = ticks_added old new e g ∙ (ticks_back (fold tick_to 0 old.history) line.number line.lane line.action given ∙ (ap (λ last. moment_after last line.action) gone.moment ∙ sym (ap moment_of more ∙ fold-append moment_by 0 (take n script) (line ∷ []))));
     }
 
-nothing_there : (n : ℕ) (e : Entry) → slice_get [] n ≡ Some e → ⊥
-nothing_there n e at = cc
-
 -- nothing is done yet
 pub gone_none : (script : List Line) (media : Media) (left : List Fragment) (r : Run) → IsFed media → left ≡ media.fragments → r ≡ record { tracks = media.tracks; history = [] } → HasGone script media 0 left r
 gone_none script media left r valid all is =
@@ -128,9 +126,9 @@ gone_none script media left r valid all is =
         samples = omega arith;
         bytes = omega arith;
         alone = tt;
-        delivered = λ place u. nothing_there (place - 1) (Claim u.worker u.track u.index u.session u.kid) u.at.1;
-        turns = record { each = λ n e at. absurd (nothing_there n e at) };
-        last = λ e at. absurd (nothing_there (0 - 1) e at.1);
+        delivered = λ place u. (let at = u.at.1 in absurd cc);
+        turns = record { each = λ n e at. absurd cc };
+        last = λ e at. (let there = at.1 in absurd cc);
       };
       lines = refl;
       above = tt;
@@ -176,7 +174,7 @@ followed_more script media [] old mid new some g s followed = absurd (omega (ari
 followed_more script media (f ∷ left) old mid new some g s followed = followed_next script media f left old mid new g s followed
 
 alone_lane : (e : Entry) → IsOfOneThread e → HasLane e
-alone_lane (Call lane line call) a = a
+alone_lane (Call lane line call) a = omega (arith, a)
 alone_lane Job a = tt
 alone_lane Task a = tt
 alone_lane (Tick line moment) a = tt

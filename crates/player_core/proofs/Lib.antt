@@ -6,7 +6,6 @@ pub mod Feeding
 pub mod Courses
 pub mod Inspects
 pub mod Demos
-pub mod OneLive
 pub mod Next
 pub mod Asked
 pub mod TheOne

@@ -8,6 +8,7 @@ use Rattle.eme_types.specs.declared.kid.KeyBytes.{KeyBytes}
 use Rattle.eme_types.specs.declared.entry.Entry.{Entry}
 use Rattle.eme_types.specs.declared.entry.Entry.TheVariants.{Call, Job, Task, Tick, Feed, Claim, Deliver, GiveUp, Publish, PassClear, WaitForKey, Settle}
 use Rattle.cdm_world.specs.In.{In}
+use Rattle.cdm_world.proofs.Members.{In_filter, In_either}
 use Rattle.key_sessions.specs.Keys.{held_key}
 use Rattle.key_sessions.specs.World.{World, empty_world}
 use Rattle.key_claims.specs.TracksState.{ClaimState}
@@ -18,7 +19,7 @@ use Rattle.cdm_state.specs.History.{world, IsLegal, Ends, HoldsFor, LiveAs}
 use Rattle.cdm_state.proofs.Histories.{world_more, legal_induction}
 use Rattle.cdm_state.proofs.Places.{either_place, slice_get_last}
 use Rattle.cdm_state.proofs.TrackIds.{and_both, or_right}
-use Rattle.cdm_state.proofs.Live.{live_more, key_is, In-filtered}
+use Rattle.cdm_state.proofs.Live.{live_more, key_is}
 use Rattle.cdm_state.proofs.Claiming.{none_names_next}
 use Rattle.player_core.specs.Left.{ends_claim, claim_under, claim_made, stays, claims_after, claims_from, live_claims}
 
@@ -54,7 +55,7 @@ unended place (PassClear track index) is ends = ends
 unended place (WaitForKey track) is ends = ends
 unended place (Settle line) is ends = ends
 
-not_false : (b : Bool) → not b ≡ true → b ≡ false
+pub not_false : (b : Bool) → not b ≡ true → b ≡ false
 not_false true is = absurd cc
 not_false false is = refl
 
@@ -86,17 +87,12 @@ made_live : (ids : List ℕ) (h : List Entry) (e : Entry) → IsLegal ids h → 
 made_live ids h (Claim worker track index session kid) legal c at = under_live ids h worker track index session kid (held_key (world ids (h ++ Claim worker track index session kid ∷ [])).machine session kid) legal refl c at
 made_live ids h _ legal c at = absurd at
 
-in_either : (xs ys : List ClaimState) (c : ClaimState) → In (xs ++ ys) c → In xs c ⊎ In ys c
-in_either [] ys c at = inr at
-in_either (x ∷ xs) ys c (inl is) = inl (inl is)
-in_either (x ∷ xs) ys c (inr at) = elim (in_either xs ys c at) [ inl here ↦ inl (inr here) | inr there ↦ inr there ]
-
 after_live : (ids : List ℕ) (h : List Entry) (e : Entry) → IsLegal ids h → AreLive ids h (live_claims ids h) → AreLive ids (h ++ e ∷ []) (live_claims ids (h ++ e ∷ []))
 after_live ids h e legal live =
     let w : World = world ids (h ++ e ∷ []) in
     subst (λ claims. AreLive ids (h ++ e ∷ []) claims) (sym (claims_more ids h e)) (λ c at.
-    elim (in_either (filter (stays w e) (live_claims ids h)) (claim_made w (length h + 1) e) c at) [
-      | inl old ↦ (let was = In-filtered (stays w e) (live_claims ids h) c old in old_live ids h e c (live c was.0) was.1)
+    elim (In_either (filter (stays w e) (live_claims ids h)) (claim_made w (length h + 1) e) c at) [
+      | inl old ↦ (let was = In_filter (stays w e) (live_claims ids h) c old in old_live ids h e c (live c was.0) was.1)
       | inr new ↦ made_live ids h e legal c new
     ])
 

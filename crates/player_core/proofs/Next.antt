@@ -16,11 +16,11 @@ use Rattle.cdm_world.specs.Tracks.{TrackState, find_track}
 use Rattle.cdm_state.specs.History.{world, IsLegal, Allowed, Live, LiveOn, MayClaim, MayPublish, MayPassClear, MayWait}
 use Rattle.cdm_state.specs.Contract.{ComesFirst}
 use Rattle.cdm_state.specs.Progress.{NoneWaits}
+use Rattle.cdm_state.proofs.Windows.{claims_each_once}
 use Rattle.cdm_state.proofs.TrackIds.{state_id, world_ids}
 use Rattle.output_order.specs.Lane.{asked}
 use Rattle.output_order.proofs.Sizes.{some_same}
 use Rattle.player_core.specs.Alone.{NoJob, NoTask, NoPublish, NoPass, NoClaim, PublishFirst, PassFirst, ClaimFirst, WaitFirst, InTurn}
-use Rattle.player_core.proofs.OneLive.{one_live}
 
 -- the place of an entry's kind in the order; the calls, ticks and feeds of lines stand outside it
 abbrev pub kind : Entry → ℕ
@@ -157,7 +157,7 @@ publish_same ids h t i p u j q legal a b first other =
     let state : a.state ≡ b.state = same_state ids h t u a.state b.state track a.known b.known in
     let index : i ≡ j = a.next ∙ (ap (λ (s : TrackState). s.published) state ∙ sym b.next) in
     let live : LiveOn ids h p u j = subst (λ n. LiveOn ids h p n j) track (subst (λ n. LiveOn ids h p t n) index a.live) in
-    let place : p ≡ q = one_live ids h legal p q u j live b.live in
+    let place : p ≡ q = claims_each_once ids h u j p q legal live b.live in
     ap (λ n. Publish n i p) track ∙ (ap (λ n. Publish u n p) index ∙ ap (λ n. Publish u j n) place)
 
 pass_same : (ids : List ℕ) (h : List Entry) (t i u j : ℕ) → MayPassClear ids h t i → MayPassClear ids h u j → PassFirst ids h t → PassFirst ids h u → PassClear t i ≡ PassClear u j

@@ -10,6 +10,7 @@ use Rattle.init_data.specs.declared.fault.InitFault.{InitFault}
 use Rattle.init_data.specs.InitData.{kids_of}
 use Rattle.eme_types.specs.declared.call.DomError.TheVariants.{TypeFault, Quota}
 use Rattle.eme_types.specs.declared.call.Event.TheVariants.{KeyStatuses, Message}
+use Rattle.eme_types.specs.declared.limits.TheConstants.{MAX_SESSION_KIDS}
 use Rattle.task_queue.specs.declared.work.Job.{Job}
 use Rattle.task_queue.specs.declared.work.Job.TheVariants.{Request, Update, Close, Remove}
 use Rattle.task_queue.specs.declared.work.Task.{Task}
@@ -37,7 +38,7 @@ grant_case false changed many n p f m = let is = pushed many (with_session n f m
 update_falls : (many n p : ℕ) (r : Result KeySet KeySetFault) (m : Machine) → queue_weight many (update_job n p r m) + 1 ≤ 2 * many + 4 + queue_weight many m
 update_falls many n p (Ok set) m =
     let s : SessionState = found (session_at m.sessions n) in
-    grant_case (nat_lt 256 (length (grant_all s.keys set.keys))) (is_changed_by m.moment s (with_set set s)) many n p (with_set set) m
+    grant_case (nat_lt MAX_SESSION_KIDS (length (grant_all s.keys set.keys))) (is_changed_by m.moment s (with_set set s)) many n p (with_set set) m
 update_falls many n p (Err fault) m = let is = pushed many m (Reject p TypeFault) in omega (arith, is)
 
 run_falls : (many : ℕ) (job : Job) (m : Machine) → queue_weight many (run_job job m) + 1 ≤ job_weight many job + queue_weight many m
@@ -65,10 +66,6 @@ reported many n m =
     let one = pushed many told (Fire (KeyStatuses n)) in
     let two = pushed many (queue_task (Fire (KeyStatuses n)) told) Resume in
     omega (arith, one, two)
-
-update_case : (b : Bool) (many n : ℕ) (m : Machine) → queue_weight many (if b then update_statuses n (unmoved m) else unmoved m).machine + 1 ≤ 2 * many + 3 + queue_weight many m
-update_case true many n m = let is = reported many n m in omega (arith, is)
-update_case false many n m = omega arith
 
 report_case : (b : Bool) (many n : ℕ) (m : Machine) → queue_weight many (if b then unmoved m else update_statuses n (unmoved m)).machine + 1 ≤ 2 * many + 3 + queue_weight many m
 report_case true many n m = omega arith

@@ -1,12 +1,13 @@
 -- A script and a media have one history on one thread.
 use Rattle.std.proofs.Common.{◌≡◌, ℕ, ◌+◌, ◌-◌, ◌≤◌, ◌<◌, List, [], ◌∷◌, ◌++◌, Some, length, take, slice_get, length-append, inl, inr, refl, ap, ◌∙◌, sym, subst, append_assoc, arith}
 use Rattle.std.specs.List.{flat_map}
-use Rattle.std.proofs.lemmas.List.{append_cancel_left}
+use Rattle.std.proofs.lemmas.List.{append_cancel_left, take-append-le, take_all}
 use Rattle.std.proofs.lemmas.List.Concat.{flat_map-append}
 use Rattle.eme_types.specs.declared.media.Media.{Media}
 use Rattle.eme_types.specs.declared.entry.Entry.{Entry}
 use Rattle.eme_types.specs.declared.entry.Entry.TheVariants.{Call, Job, Task, Tick, Feed, Claim, Deliver, GiveUp, Publish, PassClear, WaitForKey, Settle}
 use Rattle.script_lang.specs.declared.script.Line.{Line}
+use Rattle.cdm_world.proofs.ItemsAt.{get_here}
 use Rattle.cdm_state.specs.History.{IsLegal}
 use Rattle.cdm_state.proofs.Histories.{legal_front, allowed_next}
 use Rattle.cdm_state.proofs.Places.{slice_get_last}
@@ -15,17 +16,12 @@ use Rattle.player_core.specs.Alone.{LastAsked, InTurn, AreInTurn, IsAlone}
 use Rattle.player_core.proofs.Next.{kind, not_before, same_step, asked_or_step}
 use Rattle.player_core.proofs.Asked.{asked_alike}
 
-get_here : (f : List Entry) (e : Entry) (es : List Entry) → slice_get (f ++ e ∷ es) (length f) ≡ Some e
-get_here [] e es = refl
-get_here (x ∷ f) e es = get_here f e es
-
-take_here : (f es : List Entry) → take (length f) (f ++ es) ≡ f
-take_here [] es = refl
-take_here (x ∷ f) es = ap (λ ys. x ∷ ys) (take_here f es)
-
 -- what stands behind a front comes in turn after it
 turn_next : (ids : List ℕ) (f : List Entry) (e : Entry) (es : List Entry) → AreInTurn ids (f ++ e ∷ es) → InTurn ids f e
-turn_next ids f e es all = subst (λ (g : List Entry). InTurn ids g e) (take_here f (e ∷ es)) (all.each (length f) e (get_here f e es))
+turn_next ids f e es all =
+    let within : length f ≤ length f = omega arith in
+    let front : take (length f) (f ++ e ∷ es) ≡ f = rw take-append-le (take_all (length f) f within) in
+    subst (λ (g : List Entry). InTurn ids g e) front (all.each (length f) e (get_here f e es))
 
 -- the first of these is the settle of a line
 abbrev SettlesNext : List Entry → Type 0

@@ -15,6 +15,7 @@ use Rattle.key_claims.specs.TracksState.{ClaimState}
 use Rattle.cdm_state.proofs.TrackIds.{state_id, and_both}
 use Rattle.output_order.proofs.Sizes.{something_at, some_same}
 use Rattle.player_core.specs.Left.{awake_weight, samples_left, many_left, weigh, sample_weight}
+use Rattle.player_core.proofs.LiveClaims.{not_false}
 use Rattle.player_core.proofs.Queued.{woken}
 
 sample_less : (a b : Bool) → (a ≡ true → b ≡ true) → (if b then 1 else 2) ≤ (if a then 1 else 2)
@@ -84,10 +85,6 @@ others_less f g id (t ∷ ts) none less =
           omega (arith, here, rest, a, b))
     ]
 
-not_is : (b : Bool) → not b ≡ true → b ≡ false
-not_is true is = absurd cc
-not_is false is = refl
-
 -- the tracks weigh less by so much where one is changed that does, and the others weigh no more
 pub tracks_fall : (f g : TrackState → ℕ) (by : ℕ) (change : TrackState → TrackState) (id : ℕ) (s : TrackState) (ts : List TrackState) → are_distinct (map state_id ts) ≡ true → ((t : TrackState) → (t.id ≡ id → ⊥) → g t ≤ f t) → find_track ts id ≡ Some s → g (change s) + by ≤ f s → sum_by g (change_track ts id change) + by ≤ sum_by f ts
 tracks_fall f g by change id s [] distinct less known falls = absurd cc
@@ -96,7 +93,7 @@ tracks_fall f g by change id s (t ∷ ts) distinct less known falls =
     elim (eqb_tells t.id id) [
       | inl p ↦ (
           let is : t ≡ s = some_same (rw p.0 at known) in
-          let none : is_among (map state_id ts) id ≡ false = ap (is_among (map state_id ts)) (sym p.1) ∙ not_is (is_among (map state_id ts) t.id) both.0 in
+          let none : is_among (map state_id ts) id ≡ false = ap (is_among (map state_id ts)) (sym p.1) ∙ not_false (is_among (map state_id ts) t.id) both.0 in
           let rest = others_less f g id ts none less in
           let here : g (change t) + by ≤ f t = subst (λ (u : TrackState). g (change u) + by ≤ f u) (sym is) falls in
           let a = sum_by-cons g (change t) ts in

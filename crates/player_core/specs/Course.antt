@@ -5,6 +5,7 @@ use Rattle.eme_types.specs.declared.media.Fragment.{Fragment}
 use Rattle.eme_types.specs.declared.media.Media.{Media}
 use Rattle.eme_types.specs.declared.entry.Entry.{Entry}
 use Rattle.eme_types.specs.declared.entry.Entry.TheVariants.{Call, Job, Task, Tick, Feed, Claim, Deliver, GiveUp, Publish, PassClear, WaitForKey, Settle}
+use Rattle.eme_types.specs.declared.limits.TheConstants.{MAX_LANES}
 use Rattle.eme_types.specs.Fed.{IsFed, are_distinct, fragment_samples, fragment_bytes}
 use Rattle.script_lang.specs.declared.script.Line.{Line}
 use Rattle.script_lang.specs.declared.script.Action.{Action}
@@ -44,6 +45,7 @@ IsStep (PassClear track index) = Unit {0}
 IsStep (WaitForKey track) = Unit {0}
 IsStep (Settle line) = ⊥
 
+-- these entries more
 abbrev pub more_history : Run → List Entry → Run
 more_history r es = record r { history = r.history ++ es }
 
@@ -87,6 +89,7 @@ left_by left FeedAction = drop 1 left
 left_by left (Clock moment) = left
 left_by left SettleAction = left
 
+-- the moment, one line on
 abbrev pub moment_by : ℕ → Line → ℕ
 moment_by last line = moment_after last line.action
 
@@ -96,7 +99,7 @@ moment_of lines = fold moment_by 0 lines
 
 -- an entry that a play on one thread may have
 abbrev pub IsOfOneThread : Entry → Type 0
-IsOfOneThread (Call lane line call) = lane ≤ 7
+IsOfOneThread (Call lane line call) = lane < MAX_LANES
 IsOfOneThread Job = Unit {0}
 IsOfOneThread Task = Unit {0}
 IsOfOneThread (Tick line moment) = Unit {0}

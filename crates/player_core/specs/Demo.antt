@@ -37,6 +37,7 @@ joined text (suc k) = joined text k ++ text k
 abbrev pub kid_at : List ℕ → ℕ → List ℕ
 kid_at keys i = slice_range keys (32 * i) (32 * i + 16)
 
+-- and the key that goes with it
 abbrev pub key_at : List ℕ → ℕ → List ℕ
 key_at keys i = slice_range keys (32 * i + 16) (32 * i + 32)
 
@@ -44,6 +45,7 @@ key_at keys i = slice_range keys (32 * i + 16) (32 * i + 32)
 abbrev pub size_at : Stream → ℕ
 size_at words = 16 + (next_u64 words).0 % 1009
 
+-- of its bytes so many are clear
 abbrev pub clear_at : Stream → ℕ
 clear_at words = (next_u64 words).0 / 1009 % 17
 
@@ -60,6 +62,7 @@ abbrev pub sample_head : Scheme → List ℕ
 sample_head Cenc = codes "sample 1 cenc "
 sample_head Cbcs = codes "sample 2 cbcs "
 
+-- the pattern, with the space behind it
 abbrev pub pattern : Scheme → List ℕ
 pattern Cenc = []
 pattern Cbcs = codes "1:9 "
@@ -68,9 +71,11 @@ pattern Cbcs = codes "1:9 "
 abbrev pub sample_words : Scheme → List ℕ → ℕ → ℕ → List ℕ → List ℕ → List ℕ
 sample_words scheme kid size clear iv bytes = sample_head scheme ++ (encode_lower kid ++ (codes " " ++ (encode_lower iv ++ (codes " " ++ (pattern scheme ++ (decimal clear ++ (codes "+" ++ (decimal (size - clear) ++ (codes " " ++ (encode_lower bytes ++ codes "\n"))))))))))
 
+-- the line of the next sample
 unfoldable pub sample_line : Scheme → List ℕ → Stream → List ℕ
 sample_line scheme kid words = sample_words scheme kid (size_at words) (clear_at words) (iv_at words).0 (take (size_at words) (data_at words).0)
 
+-- the words behind it
 unfoldable pub behind_sample : Stream → Stream
 behind_sample words = (data_at words).1
 
@@ -78,6 +83,7 @@ behind_sample words = (data_at words).1
 unfoldable pub samples_text : Scheme → List ℕ → Stream → List ℕ
 samples_text scheme kid words = joined (λ i. sample_line scheme kid (times behind_sample i words)) 32
 
+-- the words behind them
 unfoldable pub behind_samples : Stream → Stream
 behind_samples words = times behind_sample 32 words
 
@@ -85,6 +91,7 @@ behind_samples words = times behind_sample 32 words
 unfoldable pub fragment_text : List ℕ → Stream → List ℕ
 fragment_text kid words = codes "fragment\n" ++ samples_text Cenc kid words ++ samples_text Cbcs kid (behind_samples words)
 
+-- the words behind it
 unfoldable pub behind_fragment : Stream → Stream
 behind_fragment words = behind_samples (behind_samples words)
 
@@ -92,6 +99,7 @@ behind_fragment words = behind_samples (behind_samples words)
 abbrev pub fragment_at : List ℕ → Stream → ℕ → List ℕ
 fragment_at keys words f = fragment_text (kid_at keys (f % 4)) (times behind_fragment f words)
 
+-- the sample list: 256 fragments
 unfoldable pub media_text : List ℕ → Stream → List ℕ
 media_text keys words = codes "SMPL 1\ntrack 1\ntrack 2\n" ++ joined (fragment_at keys words) 256
 
@@ -99,9 +107,11 @@ media_text keys words = codes "SMPL 1\ntrack 1\ntrack 2\n" ++ joined (fragment_a
 abbrev pub comma : ℕ → List ℕ
 comma i = if i == 0 then [] else codes ","
 
+-- a key id of the request
 abbrev pub kid_text : List ℕ → ℕ → List ℕ
 kid_text keys i = comma i ++ (codes "\"" ++ (base64url (kid_at keys i) ++ codes "\""))
 
+-- a key of a key set
 abbrev pub key_text : List ℕ → ℕ → List ℕ
 key_text keys i = comma i ++ (codes "{\"kty\":\"oct\",\"kid\":\"" ++ (base64url (kid_at keys i) ++ (codes "\",\"k\":\"" ++ (base64url (key_at keys i) ++ codes "\"}"))))
 

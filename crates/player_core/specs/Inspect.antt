@@ -10,6 +10,7 @@ use Rattle.eme_types.specs.declared.media.Media.{Media}
 use Rattle.eme_types.specs.Fed.{part_bytes}
 use Rattle.output_order.specs.Log.{hex_text, init_name}
 
+-- the sample has protection data
 abbrev pub is_protected : EncSample → Bool
 is_protected sample = is_some sample.protect
 
@@ -34,5 +35,6 @@ lines_from n (fragment ∷ more) = fragment_lines n fragment ++ lines_from (n + 
 abbrev pub last_line : Media → List ℕ
 last_line media = codes "fragments " ++ (decimal (length media.fragments) ++ (codes " tracks " ++ (decimal (length media.tracks) ++ codes "\n")))
 
+-- the fragments from number 1 on, and the last line
 unfoldable pub inspect_text : Media → List ℕ
 inspect_text media = lines_from 1 media.fragments ++ last_line media

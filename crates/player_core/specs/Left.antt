@@ -43,6 +43,7 @@ stays w e c = holds_still w.machine c && not (ends_claim c.place e)
 abbrev pub claims_after : World → ℕ → Entry → List ClaimState → List ClaimState
 claims_after w place e claims = filter (stays w e) claims ++ claim_made w place e
 
+-- the live claims after these entries, where those before them are n, w is the state after them, and these claims are live
 abbrev pub claims_from : World → ℕ → List ClaimState → List Entry → List ClaimState
 claims_from w n claims [] = claims
 claims_from w n claims (e ∷ es) = claims_from (after_entry w e) (n + 1) (claims_after (after_entry w e) (n + 1) e claims) es
@@ -82,6 +83,7 @@ awake_weight t = if t.waiting then 0 else 2
 abbrev pub samples_left : TrackState → List EncSample
 samples_left t = drop t.published t.fed
 
+-- how many these are
 abbrev pub many_left : TrackState → ℕ
 many_left t = length (samples_left t)
 

@@ -20,18 +20,15 @@ fn count_protected(samples: &[EncSample]) -> usize
     samples.iter().filter(|sample| is_protected(sample)).count()
 }
 
-/// The bytes of these samples together. More than memory holds are never met.
-fn size_of(samples: &[EncSample]) -> Result<u64, AllocError>
-    ensures { IfOk result (λ size. size ≡ sum_by sample_bytes samples.now) }
+/// The bytes of these samples together.
+fn size_of(samples: &[EncSample]) -> u128
+    ensures { result ≡ sum_by sample_bytes samples.now }
 {
-    let mut size: u64 = 0;
+    let mut size: u128 = 0;
     for sample in samples {
-        match size.checked_add(sample.bytes.len() as u64) {
-            Some(sum) => size = sum,
-            None => return Err(AllocError),
-        }
+        size += sample.bytes.len() as u128;
     }
-    Ok(size)
+    size
 }
 
 fn init_line(alloc: Global, number: u64, init: &InitData) -> Result<String, AllocError>
@@ -49,7 +46,7 @@ fn part_line(alloc: Global, number: u64, part: &TrackPart) -> Result<String, All
     let track = part.track;
     let count = samples.len();
     let protected = count_protected(samples);
-    let size = size_of(samples)?;
+    let size = size_of(samples);
     format!(in alloc;
         "fragment {number} track {track} samples {count} protected {protected} bytes {size}\n"
     )
