@@ -1,5 +1,5 @@
 -- The entries of lines and what is implied: a script and a media settle them.
-use Rattle.std.proofs.Common.{zero, suc, ◌≡◌, ℕ, ◌+◌, List, [], ◌∷◌, ◌++◌, Option, Some, length, drop, slice_get, refl, ap, ◌∙◌, sym, append-nil, add-zero, arith}
+use Rattle.std.proofs.Common.{suc, ◌≡◌, ℕ, ◌+◌, List, [], ◌∷◌, ◌++◌, Option, Some, length, drop, slice_get, refl, ap, ◌∙◌, sym, append-nil, add-zero, arith}
 use Rattle.std.specs.List.{flat_map, AllByRecursion}
 use Rattle.std.proofs.lemmas.List.Concat.{flat_map-append}
 use Rattle.eme_types.specs.declared.media.Fragment.{Fragment}
