@@ -95,7 +95,7 @@ fn one(rt: &(impl Print + AllocGlobal), at: &BoxRef<'_>) -> io::Result<()>
 fn main(rt: HostRuntime) -> io::Result<()> {
     let bytes = fs::read(&rt, "media")?;
     let mut boxes = Boxes::new(bytes.as_slice(), 0, true);
-    for _ in 0..u64::MAX {
+    loop {
         match boxes.next_box() {
             Ok(Some(at)) => one(&rt, &at)?,
             Ok(None) => return Ok(()),
@@ -105,5 +105,4 @@ fn main(rt: HostRuntime) -> io::Result<()> {
             }
         }
     }
-    Ok(())
 }

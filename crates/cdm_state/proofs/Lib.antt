@@ -12,6 +12,7 @@ pub mod Claiming
 pub mod Legal
 pub mod May
 pub mod Onward
+pub mod Stepped
 pub mod Exact
 pub mod FedOn
 pub mod First
@@ -23,3 +24,6 @@ pub mod Progress
 pub mod Windows
 pub mod InHand
 pub mod StillOpen
+pub mod OfSamples
+pub mod PastTicks
+pub mod Quiet

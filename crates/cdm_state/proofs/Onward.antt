@@ -1,38 +1,33 @@
 -- What the core keeps, after each of its calls.
-use Rattle.std.proofs.Common.{◌≡◌, ◌≢◌, ℕ, ◌+◌, ◌-◌, ◌≤◌, Bool, true, false, IsTrue, List, [], ◌∷◌, ◌++◌, length, get_or, Option, Some, None, refl, ap, sym, subst, ◌∙◌, map, take, append-nil}
-use Rattle.std.specs.Prelude.{filter, if◌then◌else◌, slice_get}
+use Rattle.std.proofs.Common.{◌≡◌, ℕ, ◌+◌, ◌-◌, true, IsTrue, List, [], ◌∷◌, ◌++◌, length, get_or, Option, Some, None, refl, ap, sym, subst, ◌∙◌, map, take, append-nil}
+use Rattle.std.specs.Prelude.{filter, slice_get}
 use Rattle.eme_types.specs.Fed.{are_distinct}
-use Rattle.eme_types.specs.declared.call.AppCall.{AppCall}
 use Rattle.eme_types.specs.declared.call.Effect.{Effect}
 use Rattle.eme_types.specs.declared.call.Event.TheVariants.{WaitingForKey}
 use Rattle.eme_types.specs.declared.media.Fragment.{Fragment}
 use Rattle.eme_types.specs.declared.entry.Entry.{Entry}
-use Rattle.eme_types.specs.declared.entry.Entry.TheVariants.{Call, Job, Task, Tick, Feed, Claim, GiveUp, Publish, PassClear, WaitForKey, Settle}
+use Rattle.eme_types.specs.declared.entry.Entry.TheVariants.{Feed, Claim, GiveUp, Publish, PassClear, WaitForKey, Settle}
 use Rattle.key_claims.specs.TracksState.{FedTrack, ClaimState, track_of}
 use Rattle.task_queue.specs.declared.work.Task.{Task as Queued}
-use Rattle.task_queue.specs.declared.work.Task.TheVariants.{Reject, RequestDone, UpdateDone, CloseDone, RemoveDone, Report, Fire, Resume}
+use Rattle.task_queue.specs.declared.work.Task.TheVariants.{Fire}
 use Rattle.key_sessions.specs.Machine.{Machine, empty_machine}
 use Rattle.key_sessions.specs.Steps.{queue_task}
 use Rattle.key_sessions.specs.Keys.{pick, held_key}
-use Rattle.key_sessions.specs.Calls.{after_call}
-use Rattle.key_sessions.specs.Jobs.{after_job}
-use Rattle.key_sessions.specs.Tasks.{after_task, after_tick, take_task}
-use Rattle.cdm_world.specs.Tracks.{TrackState, change_track, empty_track, find_track, one_more, set_waiting, feed_parts, resumed}
-use Rattle.key_sessions.specs.World.{World, resumes}
+use Rattle.cdm_world.specs.Tracks.{TrackState, change_track, empty_track, find_track, one_more, set_waiting, feed_parts}
+use Rattle.key_sessions.specs.World.{World}
 use Rattle.cdm_state.specs.After.{fire_encrypted}
-use Rattle.cdm_state.specs.Slots.{holds_still}
 use Rattle.key_claims.specs.Claims.{is_other}
 use Rattle.key_claims.specs.declared.choice.Work.{Work}
 use Rattle.cdm_state.proofs.Copied.{Copied, IsCopied}
-use Rattle.key_claims.specs.Changes.{resumed_one, changed_at, more_out, with_waiting}
+use Rattle.key_claims.specs.Changes.{changed_at, more_out, with_waiting}
 use Rattle.key_claims.specs.Choice.{IsWork, IsFirst, IsReady, has_clear_head, is_unkeyed}
 use Rattle.cdm_state.specs.Settlements.{effects_in}
 use Rattle.cdm_state.specs.Feeds.{parts_in, inits_in}
 use Rattle.cdm_state.specs.Claims.{LegalKept}
 use Rattle.cdm_state.specs.Kept.{world_of}
 use Rattle.cdm_state.specs.History.{world, IsLegal, Undelivered, MayFeedNext, MayClaim, MayPublish, MayPassClear, MayWait, AtRest}
-use Rattle.cdm_state.proofs.TrackLists.{resumed_states, changed_state, out_state}
-use Rattle.cdm_state.proofs.Legal.{legal_stepped, legal_left, legal_ended, legal_claimed}
+use Rattle.cdm_state.proofs.TrackLists.{changed_state, out_state}
+use Rattle.cdm_state.proofs.Legal.{legal_left, legal_ended, legal_claimed}
 use Rattle.cdm_state.proofs.Claiming.{pick_holds}
 use Rattle.cdm_state.proofs.May.{may_claim, may_publish, may_pass, may_wait, claim_picked, stands_at}
 
@@ -48,42 +43,6 @@ legal_new ids h did m ts claims none nothing empty states unclaimed = rw (none, 
   where
     absent : (n : ℕ) (e : Entry) → slice_get [] n ≡ Some e → ⊥
     absent n e at = cc
-
-pub legal_call : (ids : List ℕ) (h g : List Entry) (did more : List (List Effect)) (fx : List Effect) (lane line : ℕ) (call : AppCall) (m n : Machine) (ts : List FedTrack) (claims new : List ClaimState) → LegalKept ids h did (world_of m ts) claims → g ≡ h ++ Call lane line call ∷ [] → n ≡ (after_call call m).machine → fx ≡ (after_call call m).effects → more ≡ did ++ fx ∷ [] → new ≡ filter (holds_still n) claims → LegalKept ids g more (world_of n ts) new
-legal_call ids h g did more fx lane line call m n ts claims new kept is after fxs moreis refreshed =
-    legal_stepped ids h g (Call lane line call) did more fx (world_of m ts) (world_of n ts) claims new kept tt (record { plain = λ w t i n k x. cc; ends = λ p x. x; spends = λ s there x. x }) is (ap (λ (k : Machine). world_of k ts) after) fxs moreis refreshed
-
-pub legal_job : (ids : List ℕ) (h g : List Entry) (did more : List (List Effect)) (fx : List Effect) (m n : Machine) (ts : List FedTrack) (claims new : List ClaimState) → LegalKept ids h did (world_of m ts) claims → m.jobs ≢ [] → g ≡ h ++ Job ∷ [] → n ≡ (after_job m).machine → fx ≡ [] → more ≡ did ++ fx ∷ [] → new ≡ filter (holds_still n) claims → LegalKept ids g more (world_of n ts) new
-legal_job ids h g did more fx m n ts claims new kept some is after fxs moreis refreshed =
-    legal_stepped ids h g Job did more fx (world_of m ts) (world_of n ts) claims new kept (subst (λ (v : World). v.machine.jobs ≢ []) kept.state some) (record { plain = λ w t i n k x. cc; ends = λ p x. x; spends = λ s there x. x }) is (ap (λ (k : Machine). world_of k ts) after) fxs moreis refreshed
-
-pub legal_tick : (ids : List ℕ) (h g : List Entry) (did more : List (List Effect)) (fx : List Effect) (line moment : ℕ) (m n : Machine) (ts : List FedTrack) (claims new : List ClaimState) → LegalKept ids h did (world_of m ts) claims → (world ids h).machine.moment ≤ moment → g ≡ h ++ Tick line moment ∷ [] → n ≡ (after_tick moment m).machine → fx ≡ [] → more ≡ did ++ fx ∷ [] → new ≡ filter (holds_still n) claims → LegalKept ids g more (world_of n ts) new
-legal_tick ids h g did more fx line moment m n ts claims new kept later is after fxs moreis refreshed =
-    legal_stepped ids h g (Tick line moment) did more fx (world_of m ts) (world_of n ts) claims new kept later (record { plain = λ w t i n k x. cc; ends = λ p x. x; spends = λ s there x. x }) is (ap (λ (k : Machine). world_of k ts) after) fxs moreis refreshed
-
--- `Resume` changes no key
-resume_keys : (tasks : List Queued) (m : Machine) → resumes tasks ≡ true → ((take_task tasks m).machine.sessions ≡ m.sessions) × ((take_task tasks m).machine.moment ≡ m.moment)
-resume_keys [] m e = absurd cc
-resume_keys (Reject p error ∷ tasks) m e = absurd cc
-resume_keys (RequestDone n kids p ∷ tasks) m e = absurd cc
-resume_keys (UpdateDone n changed p ∷ tasks) m e = absurd cc
-resume_keys (CloseDone n p ∷ tasks) m e = absurd cc
-resume_keys (RemoveDone n p ∷ tasks) m e = absurd cc
-resume_keys (Report n ∷ tasks) m e = absurd cc
-resume_keys (Fire event ∷ tasks) m e = absurd cc
-resume_keys (Resume ∷ tasks) m e = (refl, refl)
-
-same_picks : (m n : Machine) → n.sessions ≡ m.sessions → n.moment ≡ m.moment → pick n ≡ pick m
-same_picks m n sessions moment = rw (sessions, moment) refl
-
-task_tracks : (b : Bool) (m n : Machine) (ts us : List FedTrack) → (b ≡ true → pick n ≡ pick m) → us ≡ (if b then map (resumed_one (pick n)) ts else ts) → map track_of us ≡ (if b then resumed (pick m) (map track_of ts) else map track_of ts)
-task_tracks true m n ts us same is = ap (map track_of) is ∙ (resumed_states (pick n) ts ∙ ap (λ p. resumed p (map track_of ts)) (same refl))
-task_tracks false m n ts us same is = ap (map track_of) is
-
-pub legal_task : (ids : List ℕ) (h g : List Entry) (did more : List (List Effect)) (fx : List Effect) (asked : Bool) (m n : Machine) (ts us : List FedTrack) (claims new : List ClaimState) → LegalKept ids h did (world_of m ts) claims → m.tasks ≢ [] → g ≡ h ++ Task ∷ [] → n ≡ (after_task m).machine → asked ≡ resumes m.tasks → us ≡ (if asked then map (resumed_one (pick n)) ts else ts) → fx ≡ (after_task m).effects → more ≡ did ++ fx ∷ [] → new ≡ filter (holds_still n) claims → LegalKept ids g more (world_of n us) new
-legal_task ids h g did more fx asked m n ts us claims new kept some is after ask looked fxs moreis refreshed =
-    let t = task_tracks (resumes m.tasks) m n ts us (λ e. (let k = resume_keys m.tasks m e in same_picks m n (ap (λ (x : Machine). x.sessions) after ∙ k.0) (ap (λ (x : Machine). x.moment) after ∙ k.1))) (rw ask at looked) in
-    legal_stepped ids h g Task did more fx (world_of m ts) (world_of n us) claims new kept (subst (λ (v : World). v.machine.tasks ≢ []) kept.state some) (record { plain = λ w t i n k x. cc; ends = λ p x. x; spends = λ s there x. x }) is (ap (λ (k : Machine). let v : World = record { machine = k; tracks = map track_of us } in v) after ∙ ap (λ (xs : List TrackState). let v : World = record { machine = (after_task m).machine; tracks = xs } in v) t) fxs moreis refreshed
 
 pub legal_settle : (ids : List ℕ) (h g : List Entry) (did more : List (List Effect)) (fx : List Effect) (line : ℕ) (m : Machine) (ts : List FedTrack) (claims : List ClaimState) → LegalKept ids h did (world_of m ts) claims → AtRest (world_of m ts) → g ≡ h ++ Settle line ∷ [] → fx ≡ [] → more ≡ did ++ fx ∷ [] → LegalKept ids g more (world_of m ts) claims
 legal_settle ids h g did more fx line m ts claims kept rest is fxs moreis =

@@ -25,6 +25,7 @@ use Rattle.cdm_state.specs.Claims.{LegalKept}
 use Rattle.cdm_state.specs.Kept.{world_of}
 use Rattle.key_claims.specs.Choice.{IsFirst, IsReady, has_clear_head}
 use Rattle.cdm_state.specs.Output.{fed_at, fed_sample, key_for, claim_key, opened, data_of, output_of, out_from, out}
+use Rattle.cdm_state.specs.OfSamples.{OutGoesOn}
 use Rattle.cdm_state.specs.Shown.{SameShown, SameOut, OneOut, OutKept}
 use Rattle.cdm_state.specs.History.{world, IsLegal, Allowed}
 use Rattle.key_claims.specs.Changes.{changed_at, more_out, find_fed, outputs_of}
@@ -42,15 +43,19 @@ use Rattle.cdm_state.proofs.FedOn.{fed_stays, fed_since, claimed_fed}
 some_alone : {A : Type 0} (x y : A) → Some x ≡ Some y → x ≡ y
 some_alone x y e = cc
 
-out_from_more : (ids : List ℕ) (g : List Entry) (t : ℕ) (es : List Entry) (e : Entry) → out_from ids g t (es ++ e ∷ []) ≡ out_from ids g t es ++ output_of ids (g ++ es) t e
-out_from_more ids g t [] e = append-nil (output_of ids g t e) ∙ ap (λ (x : List Entry). output_of ids x t e) (sym (append-nil g))
-out_from_more ids g t (x ∷ es) e =
-    ap (λ (ys : List (List ℕ)). output_of ids g t x ++ ys) (out_from_more ids (g ++ x ∷ []) t es e) ∙ (sym (append_assoc (output_of ids g t x) (out_from ids (g ++ x ∷ []) t es) (output_of ids ((g ++ x ∷ []) ++ es) t e)) ∙ ap (λ (z : List Entry). (output_of ids g t x ++ out_from ids (g ++ x ∷ []) t es) ++ output_of ids z t e) (append_assoc g (x ∷ []) es))
+out_from_append : (ids : List ℕ) (g : List Entry) (t : ℕ) (hs es : List Entry) → out_from ids g t (hs ++ es) ≡ out_from ids g t hs ++ out_from ids (g ++ hs) t es
+out_from_append ids g t [] es = ap (λ (x : List Entry). out_from ids x t es) (sym (append-nil g))
+out_from_append ids g t (x ∷ hs) es =
+    ap (λ (ys : List (List ℕ)). output_of ids g t x ++ ys) (out_from_append ids (g ++ x ∷ []) t hs es) ∙ (sym (append_assoc (output_of ids g t x) (out_from ids (g ++ x ∷ []) t hs) (out_from ids ((g ++ x ∷ []) ++ hs) t es)) ∙ ap (λ (z : List Entry). (output_of ids g t x ++ out_from ids (g ++ x ∷ []) t hs) ++ out_from ids z t es) (append_assoc g (x ∷ []) hs))
+
+-- what is out goes on
+pub out_goes_on : OutGoesOn
+unfolding out
+out_goes_on ids h es t = out_from_append ids [] t h es
 
 -- what is out after one more entry
 pub out_more : (ids : List ℕ) (h : List Entry) (e : Entry) (t : ℕ) → out ids (h ++ e ∷ []) t ≡ out ids h t ++ output_of ids h t e
-unfolding out
-out_more ids h e t = out_from_more ids [] t h e
+out_more ids h e t = out_goes_on ids h (e ∷ []) t ∙ ap (λ (xs : List (List ℕ)). out ids h t ++ xs) (append-nil (output_of ids h t e))
 
 -- the sample of a kept claim is the one that it was
 same_sample : (ids : List ℕ) (h g : List Entry) (e : Entry) (did : List (List Effect)) (w : World) (claims : List ClaimState) (s : ClaimState) (x : EncSample) → LegalKept ids h did w claims → g ≡ h ++ e ∷ [] → In claims s → fed_sample (world ids g) s.track s.index ≡ Some x → fed_sample (world ids h) s.track s.index ≡ Some x

@@ -11,7 +11,8 @@ use Rattle.eme_types.specs.declared.entry.Entry.{Entry}
 use Rattle.eme_types.specs.declared.entry.Entry.TheVariants.{Claim}
 use Rattle.key_claims.specs.TracksState.{FedTrack}
 use Rattle.cdm_world.specs.In.{In}
-use Rattle.key_claims.specs.TrackValue.{all_left, all_fed}
+use Rattle.key_claims.specs.TrackValue.{all_fed}
+use Rattle.cdm_state.specs.Chronicle.{ChronicleState, HasRoomFor}
 use Rattle.cdm_state.specs.Kept.{all_awake, RoomKept, KeptAs}
 use Rattle.cdm_state.specs.History.{Spends, Undelivered, fed_samples, fed_samples_of, MayFeedNext, samples_in}
 use Rattle.eme_types.specs.declared.media.Fragment.{Fragment}
@@ -87,75 +88,64 @@ some_in (x ∷ xs) place at = omega arith
 fed_more : (h : List Entry) (e : Entry) → fed_samples (h ++ e ∷ []) ≡ fed_samples h + fed_samples_of e
 fed_more h e = sum_by-append fed_samples_of h (e ∷ []) ∙ omega arith
 
--- after an entry that is no claim, feeds nothing and leaves the places
-pub kept_more : (h g : List Entry) (e : Entry) (ts us : List FedTrack) (places : List ℕ) → g ≡ h ++ e ∷ [] → IsPlain e → fed_samples_of e ≡ 0 → all_fed us ≤ all_fed ts → KeptAs h ts places → KeptAs g us places
-kept_more h g e ts us places is plain none le kept = rw is (record {
+-- after an entry that is no claim, feeds nothing and spends no claim
+pub kept_more : (h g : List Entry) (e : Entry) (ts us : List FedTrack) (undelivered : List ℕ) → g ≡ h ++ e ∷ [] → IsPlain e → fed_samples_of e ≡ 0 → all_fed us ≤ all_fed ts → KeptAs h ts undelivered → KeptAs g us undelivered
+kept_more h g e ts us undelivered is plain none le kept = rw is (record {
   limit = omega (arith, fed_more h e, none, kept.limit);
   fed = omega (arith, fed_more h e, none, kept.fed, le);
   waits = λ c u. kept.waits c (waited h e c plain u).0;
 })
 
-pub kept_fed : (h g : List Entry) (e : Entry) (ts us : List FedTrack) (places : List ℕ) (n : ℕ) → g ≡ h ++ e ∷ [] → IsPlain e → fed_samples_of e ≡ n → fed_samples h + n ≤ MAX_SAMPLES → all_fed us ≤ all_fed ts + n → KeptAs h ts places → KeptAs g us places
-kept_fed h g e ts us places n is plain some limit le kept = rw is (record {
+pub kept_fed : (h g : List Entry) (e : Entry) (ts us : List FedTrack) (undelivered : List ℕ) (n : ℕ) → g ≡ h ++ e ∷ [] → IsPlain e → fed_samples_of e ≡ n → fed_samples h + n ≤ MAX_SAMPLES → all_fed us ≤ all_fed ts + n → KeptAs h ts undelivered → KeptAs g us undelivered
+kept_fed h g e ts us undelivered n is plain some limit le kept = rw is (record {
   limit = omega (arith, fed_more h e, some, limit);
   fed = omega (arith, fed_more h e, some, kept.fed, le);
   waits = λ c u. kept.waits c (waited h e c plain u).0;
 })
 
-pub kept_claim : (h g : List Entry) (e : Entry) (ts : List FedTrack) (places more : List ℕ) (place : ℕ) → g ≡ h ++ e ∷ [] → fed_samples_of e ≡ 0 → place ≡ length h + 1 → more ≡ places ++ place ∷ [] → KeptAs h ts places → KeptAs g ts more
-kept_claim h g e ts places more place is none here added kept = rw (is, added) (record {
+pub kept_claim : (h g : List Entry) (e : Entry) (ts : List FedTrack) (undelivered more : List ℕ) (place : ℕ) → g ≡ h ++ e ∷ [] → fed_samples_of e ≡ 0 → place ≡ length h + 1 → more ≡ undelivered ++ place ∷ [] → KeptAs h ts undelivered → KeptAs g ts more
+kept_claim h g e ts undelivered more place is none here added kept = rw (is, added) (record {
   limit = omega (arith, fed_more h e, none, kept.limit);
   fed = omega (arith, fed_more h e, none, kept.fed);
   waits = λ c u. elim (waited_or_new h e c u) [
-    | inl b ↦ In-left places (place ∷ []) c (kept.waits c b)
-    | inr n ↦ (let same : place ≡ c = here ∙ sym n in subst (λ (x : ℕ). In (places ++ place ∷ []) x) same (In-last places place))
+    | inl b ↦ In-left undelivered (place ∷ []) c (kept.waits c b)
+    | inr n ↦ (let same : place ≡ c = here ∙ sym n in subst (λ (x : ℕ). In (undelivered ++ place ∷ []) x) same (In-last undelivered place))
   ];
 })
 
-pub kept_spent : (h g : List Entry) (e : Entry) (ts : List FedTrack) (places fewer : List ℕ) (place : ℕ) → g ≡ h ++ e ∷ [] → IsPlain e → fed_samples_of e ≡ 0 → Spends e place → fewer ≡ filter (other place) places → KeptAs h ts places → KeptAs g ts fewer
-kept_spent h g e ts places fewer place is plain none spends less kept = rw (is, less) (record {
+pub kept_spent : (h g : List Entry) (e : Entry) (ts : List FedTrack) (undelivered fewer : List ℕ) (place : ℕ) → g ≡ h ++ e ∷ [] → IsPlain e → fed_samples_of e ≡ 0 → Spends e place → fewer ≡ filter (other place) undelivered → KeptAs h ts undelivered → KeptAs g ts fewer
+kept_spent h g e ts undelivered fewer place is plain none spends less kept = rw (is, less) (record {
   limit = omega (arith, fed_more h e, none, kept.limit);
   fed = omega (arith, fed_more h e, none, kept.fed);
-  waits = λ c u. (let w = waited h e c plain u in In-other places place c (kept.waits c w.0) (λ same. w.1 (subst (λ (x : ℕ). Spends e x) same spends)));
+  waits = λ c u. (let w = waited h e c plain u in In-other undelivered place c (kept.waits c w.0) (λ same. w.1 (subst (λ (x : ℕ). Spends e x) same spends)));
 })
 
 -- room after a step that reserved it, and then took one entry
-pub room_stepped : (ts : List FedTrack) (w n m k a b : ℕ) → w + length ts + all_left ts + 1 ≤ a → w + length ts + all_left ts + 1 ≤ b → a ≤ n + 1 → b ≤ m + 1 → all_awake ts ≤ k → RoomKept n m k ts w
-room_stepped ts w n m k a b h e hn em le = record {
-  history = omega (arith, awake_within ts, h, hn);
-  effects = omega (arith, awake_within ts, e, em);
-  events = le;
-}
+pub room_stepped : (c : ChronicleState) (ts : List FedTrack) (w n k : ℕ) → HasRoomFor c w ts 1 → c.room ≤ n + 1 → all_awake ts ≤ k → RoomKept n k ts w
+room_stepped c ts w n k room next le = record { entries = omega (arith, awake_within ts, room, next); events = le }
 
 -- room after a claim was delivered or given up
-pub room_spent : (ts : List FedTrack) (w v n m k a b : ℕ) → v + 1 ≤ w → n ≤ a + 1 → m ≤ b + 1 → RoomKept n m k ts w → RoomKept a b k ts v
-room_spent ts w v n m k a b less na mb room = record {
-  history = omega (arith, room.history, less, na);
-  effects = omega (arith, room.effects, less, mb);
-  events = room.events;
-}
+pub room_spent : (ts : List FedTrack) (w v n k m : ℕ) → v + 1 ≤ w → n ≤ m + 1 → RoomKept n k ts w → RoomKept m k ts v
+room_spent ts w v n k m less next room = record { entries = omega (arith, room.entries, less, next); events = room.events }
 
 -- room after a publication
-pub room_out : (ts us : List FedTrack) (w n m k a b : ℕ) → GivesOut ts us → n ≤ a + 1 → m ≤ b + 1 → RoomKept n m k ts w → RoomKept a b k us w
-room_out ts us w n m k a b out na mb room = record {
-  history = omega (arith, room.history, out.left, out.awake, na);
-  effects = omega (arith, room.effects, out.left, out.awake, mb);
+pub room_out : (ts us : List FedTrack) (w n k m : ℕ) → GivesOut ts us → n ≤ m + 1 → RoomKept n k ts w → RoomKept m k us w
+room_out ts us w n k m out next room = record {
+  entries = omega (arith, room.entries, out.left, out.awake, next);
   events = omega (arith, room.events, out.awake);
 }
 
 -- room after a track began to wait
-pub room_asleep : (ts us : List FedTrack) (w n m k a b c : ℕ) → Sleeps ts us → n ≤ a + 1 → m ≤ b + 1 → k ≤ c + 1 → RoomKept n m k ts w → RoomKept a b c us w
-room_asleep ts us w n m k a b c asleep na mb kc room = record {
-  history = omega (arith, room.history, asleep.left, asleep.awake, na);
-  effects = omega (arith, room.effects, asleep.left, asleep.awake, mb);
-  events = omega (arith, room.events, asleep.awake, kc);
+pub room_asleep : (ts us : List FedTrack) (w n k m l : ℕ) → Sleeps ts us → n ≤ m + 1 → k ≤ l + 1 → RoomKept n k ts w → RoomKept m l us w
+room_asleep ts us w n k m l asleep next fired room = record {
+  entries = omega (arith, room.entries, asleep.left, asleep.awake, next);
+  events = omega (arith, room.events, asleep.awake, fired);
 }
 
 -- room after a feed
-pub room_fed : (ts us : List FedTrack) (w x n m k a b : ℕ) → Grown ts us x → w + length ts + all_left ts + (x + 1) ≤ a → w + length ts + all_left ts + (x + 1) ≤ b → a ≤ n + 1 → b ≤ m + 1 → length ts ≤ k → RoomKept n m k us w
-room_fed ts us w x n m k a b g h e hn em le = record {
-  history = omega (arith, awake_within ts, g.left, g.awake, h, hn);
-  effects = omega (arith, awake_within ts, g.left, g.awake, e, em);
+pub room_fed : (c : ChronicleState) (ts us : List FedTrack) (w x n k : ℕ) → Grown ts us x → HasRoomFor c w ts (x + 1) → c.room ≤ n + 1 → length ts ≤ k → RoomKept n k us w
+room_fed c ts us w x n k g room next le = record {
+  entries = omega (arith, awake_within ts, g.left, g.awake, room, next);
   events = omega (arith, awake_within ts, g.awake, le);
 }
 
@@ -163,8 +153,8 @@ pub fed_limit : (ids : List ℕ) (h : List Entry) (f : Option Fragment) → fed_
 fed_limit ids h None few may = omega (arith, few)
 fed_limit ids h (Some f) few may = may.samples
 
-pub kept_new : (h : List Entry) (ts : List FedTrack) (places : List ℕ) → h ≡ [] → all_fed ts ≡ 0 → KeptAs h ts places
-kept_new h ts places none unfed = rw none (record {
+pub kept_new : (h : List Entry) (ts : List FedTrack) (undelivered : List ℕ) → h ≡ [] → all_fed ts ≡ 0 → KeptAs h ts undelivered
+kept_new h ts undelivered none unfed = rw none (record {
   limit = omega arith;
   fed = omega (arith, unfed);
   waits = λ c u. absurd (nothing (c - 1) _ u.at.1);

@@ -38,7 +38,7 @@ some_alone x y e = cc
 
 -- After each legal history some list of claims is just the live ones.
 
-abbrev Keeps : List ℕ → List Entry → Type 0
+abbrev pub Keeps : List ℕ → List Entry → Type 0
 Keeps ids h = (claims : List ClaimState) × ClaimsKept ids h claims
 
 keeps_left : (ids : List ℕ) (h : List Entry) (e : Entry) → ((claims : List ClaimState) → LeavesClaims e claims) → Keeps ids h → Keeps ids (h ++ e ∷ [])
@@ -84,7 +84,7 @@ nothing_there n e at = cc
 keeps_none : (ids : List ℕ) → Keeps ids []
 keeps_none ids = ([], record { live = λ s there. absurd there; all = λ place live. absurd (nothing_there (place - 1) live.0 live.2.at.1); clear = λ s there. absurd there; once = tt })
 
-keeps : (ids : List ℕ) (h : List Entry) → IsLegal ids h → Keeps ids h
+pub keeps : (ids : List ℕ) (h : List Entry) → IsLegal ids h → Keeps ids h
 keeps ids h legal = legal_induction ids (Keeps ids) (keeps_none ids) (λ g e l may k. keeps_more ids g e l may k) h legal
 
 clear_or_waits : (h : List Entry) (place : ℕ) (o : Option (List ℕ)) → NoneWaits h → ClearKept h place o → Contains h (Deliver place Taken)

@@ -179,7 +179,7 @@ asleep_now ids h track id t u there may same is =
           absurd (true≢false (sym p ∙ none));
     }
 
-resumed_same_id : (picks : Picks) (s : TrackState) → (resumed_track picks s).id ≡ s.id
+pub resumed_same_id : (picks : Picks) (s : TrackState) → (resumed_track picks s).id ≡ s.id
 resumed_same_id picks s = go (has_pick picks (head s)) where
   go : (b : Bool) → (if b then record s { waiting = false } else s).id ≡ s.id
   go true = refl

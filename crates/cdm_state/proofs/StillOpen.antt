@@ -1,5 +1,5 @@
 -- Claims stay open through what does not spend them.
-use Rattle.std.proofs.Common.{arith, OnOk, OnErr, IfOk, Result, Ok, Err, ℕ, ◌≡◌, ◌≢◌, ◌+◌, ◌-◌, List, [], ◌∷◌, ◌++◌, length, take, Some, sym, ap, subst}
+use Rattle.std.proofs.Common.{zero, suc, refl, append-nil, append_assoc, arith, OnOk, OnErr, IfOk, Result, Ok, Err, ℕ, ◌≡◌, ◌≢◌, ◌+◌, ◌-◌, List, [], ◌∷◌, ◌++◌, length, take, Some, sym, ap, subst}
 use Rattle.eme_types.specs.declared.entry.Entry.{Entry}
 use Rattle.eme_types.specs.declared.entry.Entry.TheVariants.{Claim, Deliver, Publish, PassClear, WaitForKey}
 use Rattle.eme_types.specs.declared.entry.Verdict.TheVariants.{Taken as TakenVerdict, Stale as StaleVerdict}
@@ -10,29 +10,41 @@ use Rattle.key_claims.specs.declared.claim.ClaimFault.{ClaimFault}
 use Rattle.key_claims.specs.declared.claim.Published.{Published}
 use Rattle.key_sessions.specs.Keys.{held_key}
 use Rattle.key_sessions.specs.World.{World}
-use Rattle.cdm_state.specs.Contract.{IsOpen, Claims, Delivers}
+use Rattle.cdm_state.specs.Contract.{Stands, IsOpen, Claims, Delivers}
+use Rattle.cdm_state.specs.Open.{StandsOn, StaysOpen}
 use Rattle.cdm_state.specs.History.{world, Spends}
 use Rattle.cdm_state.specs.Output.{fed_sample}
 use Rattle.cdm_state.specs.Run.{Run, with_entry}
 use Rattle.cdm_state.proofs.Places.{slice_get_left}
 use Rattle.cdm_state.proofs.Live.{at_within, take_left, open_more}
 
--- a claim stays open after an entry that does not spend it
-pub open_after : (r : Run) (e : Entry) (c : Held) → (Spends e c.place → ⊥) → IsOpen r c → IsOpen (with_entry r e) c
-open_after r e c other o =
-    let st = o.stands in
+-- a claim stands after one more entry
+stands_after : (r : Run) (e : Entry) (c : Held) → Stands r c → Stands (with_entry r e) c
+stands_after r e c st =
     let le = at_within r.history c.place (Claim c.worker c.track c.index c.session st.kid) st.at in
     let same : world r.tracks (take c.place (r.history ++ e ∷ [])) ≡ world r.tracks (take c.place r.history) = ap (λ (g : List Entry). world r.tracks g) (take_left r.history e c.place le) in
     record {
-      stands = record {
-        kid = st.kid;
-        at = (st.at.0, slice_get_left r.history e (Claim c.worker c.track c.index c.session st.kid) (c.place - 1) st.at.1);
-        key = subst (λ (w : World). held_key w.machine c.session st.kid ≡ Some c.key) (sym same) st.key;
-        sample = subst (λ (w : World). fed_sample w c.track c.index ≡ Some c.sample) (sym same) st.sample;
-        formed = st.formed;
-      };
-      waits = open_more r.history e c.place other o.waits;
+      kid = st.kid;
+      at = (st.at.0, slice_get_left r.history e (Claim c.worker c.track c.index c.session st.kid) (c.place - 1) st.at.1);
+      key = subst (λ (w : World). held_key w.machine c.session st.kid ≡ Some c.key) (sym same) st.key;
+      sample = subst (λ (w : World). fed_sample w c.track c.index ≡ Some c.sample) (sym same) st.sample;
+      formed = st.formed;
     }
+
+-- it stays open after an entry that does not spend it
+pub open_after : (r : Run) (e : Entry) (c : Held) → (Spends e c.place → ⊥) → IsOpen r c → IsOpen (with_entry r e) c
+open_after r e c other o = record { stands = stands_after r e c o.stands; waits = open_more r.history e c.place other o.waits }
+
+abbrev at_end : Run → List Entry → Run
+at_end r h = record r { history = h }
+
+pub stands_on : StandsOn
+stands_on r [] c st = subst (λ (h : List Entry). Stands (at_end r h) c) (sym (append-nil r.history)) st
+stands_on r (e ∷ es) c st = subst (λ (h : List Entry). Stands (at_end r h) c) (append_assoc r.history (e ∷ []) es) (stands_on (with_entry r e) es c (stands_after r e c st))
+
+pub stays_open : StaysOpen
+stays_open r [] c others o = subst (λ (h : List Entry). IsOpen (at_end r h) c) (sym (append-nil r.history)) o
+stays_open r (e ∷ es) c others o = subst (λ (h : List Entry). IsOpen (at_end r h) c) (append_assoc r.history (e ∷ []) es) (stays_open (with_entry r e) es c (λ n x at. others (suc n) x at) (open_after r e c (others zero e refl) o))
 
 -- open claims stay open where nothing was done
 pub kept_open : (old new : Run) → new ≡ old → (c : Held) → IsOpen old c → IsOpen new c

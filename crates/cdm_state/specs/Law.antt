@@ -1,6 +1,7 @@
 -- Laws of histories.
-use Rattle.std.specs.Prelude.{ℕ, ◌≡◌, ◌≤◌, ◌<◌, ◌+◌, List, length, Some}
+use Rattle.std.specs.Prelude.{ℕ, ◌≡◌, ◌≤◌, ◌<◌, ◌+◌, ◌++◌, List, length, slice_get, Some}
 use Rattle.eme_types.specs.declared.entry.Entry.{Entry}
+use Rattle.eme_types.specs.declared.entry.Entry.TheVariants.{Tick}
 use Rattle.key_sessions.specs.Owed.{IsOwed}
 use Rattle.cdm_world.specs.Tracks.{TrackState, find_track}
 use Rattle.cdm_state.specs.History.{world, IsLegal, AtRest, LiveOn}
@@ -30,3 +31,11 @@ ClaimsEachOnce = (ids : List ℕ) (h : List Entry) (track index p q : ℕ) → I
 -- the index of a live claim is at least the published count of its track and below it plus 16
 abbrev pub ClaimsInTheWindow : Type 0
 ClaimsInTheWindow = (ids : List ℕ) (h : List Entry) (track index p : ℕ) (t : TrackState) → IsLegal ids h → LiveOn ids h p track index → find_track (world ids h).tracks track ≡ Some t → (t.published ≤ index) × (index < t.published + 16)
+
+-- each front of a legal history is legal
+abbrev pub FrontsAreLegal : Type 0
+FrontsAreLegal = (ids : List ℕ) (h es : List Entry) → IsLegal ids (h ++ es) → IsLegal ids h
+
+-- the moment after a legal history is at least that of each of its ticks
+abbrev pub MomentIsPastEachTick : Type 0
+MomentIsPastEachTick = (ids : List ℕ) (h : List Entry) (n line moment : ℕ) → IsLegal ids h → slice_get h n ≡ Some (Tick line moment) → moment ≤ (world ids h).machine.moment

@@ -3,6 +3,8 @@ pub mod History
 pub mod Output
 pub mod Settlements
 pub mod Run
+pub mod Chronicle
+pub mod ChronicleKept
 pub mod Moment
 pub mod Law
 pub mod Slots
@@ -12,4 +14,6 @@ pub mod Claims
 pub mod Shown
 pub mod Kept
 pub mod Progress
+pub mod Open
+pub mod OfSamples
 pub mod Waiting

@@ -1,5 +1,5 @@
 // The history, and the state after it.
-ghost use Rattle.std.specs.Prelude.{◌≡◌, ◌<◌, ◌≤◌, ◌+◌, ◌-◌, [], OnOk, OnErr, IfErr, IsErrOf, IfOk, ◌↔◌, IsTrue, MatchOption, Some, None, ℕ, List, length};
+ghost use Rattle.std.specs.Prelude.{◌≡◌, ◌<◌, ◌≤◌, ◌+◌, ◌-◌, [], OnOk, OnErr, IfErr, IsErrOf, IfOk, ◌↔◌, IsTrue, ◌≢◌, MatchOption, Some, None, ℕ, List, length};
 ghost use Rattle.std.specs.Prelude.{slice_get, map, ◌⊎◌, if◌then◌else◌};
 ghost use Rattle.eme_types.specs.Fed.{are_distinct};
 ghost use Rattle.eme_types.specs.declared.limits.TheConstants.{MAX_TRACKS};
@@ -17,17 +17,16 @@ ghost use Rattle.key_claims.specs.Choice.{NoWork};
 ghost use Rattle.key_claims.specs.Contract.{AreBelow, Claims as Taken};
 ghost use Rattle.cdm_state.specs.Claims.{HasKid};
 
-use crate::feed::{queue_events, take_in};
-use crate::room::{append, close_place, reserve, revoke_lost};
+use crate::chronicle::Chronicle;
+use crate::feed::queue_events;
+use crate::parts::{Parts, close_place};
 use eme_types::{
-    AppCall, Bytes, Copies, Effect, Effects, EncSample, Entry, Event, Fragment, KeyId, TrackIds,
-    Verdict,
+    AppCall, Bytes, Copies, Effect, EncSample, Entry, Event, Fragment, KeyId, TrackIds, Verdict,
 };
 use key_claims::{Claim, ClaimFault, Delivered, NotReady, NotWaiting, Published, Tracks};
 use key_sessions::{Sessions, StepFault};
 use std::alloc::{AllocError, Global};
 use std::marker::Model;
-use task_queue::Log;
 
 /// A call that wanted memory, with the call handed back.
 #[derive(Drop)]
@@ -60,12 +59,7 @@ pub enum SettleFault {
 pub struct Cdm {
     alloc: Global,
     ids: TrackIds,
-    history: Log<Entry>,
-    effects: Log<Effects>,
-    sessions: Sessions,
-    tracks: Tracks,
-    /// The claims that wait for their delivery, by place.
-    places: Vec<u64>,
+    parts: Parts,
 }
 
 impl Model for Cdm {
@@ -89,20 +83,15 @@ impl Cdm {
     {
         let ids = tracks.copy()?;
         let states = Tracks::new(alloc, tracks)?;
-        let mut history = Log::new(alloc);
-        let mut effects = Log::new(alloc);
-        let mut sessions = Sessions::new(alloc);
-        reserve(&mut history, &mut effects, 0, &states, 0)?;
-        sessions.reserve_events(states.len())?;
-        Ok(Cdm {
-            alloc,
-            ids,
-            history,
-            effects,
-            sessions,
+        let mut parts = Parts {
+            chronicle: Chronicle::new(alloc),
+            sessions: Sessions::new(alloc),
             tracks: states,
-            places: Vec::new(alloc),
-        })
+            undelivered: Vec::new(alloc),
+        };
+        parts.reserve(0)?;
+        parts.sessions.reserve_events(parts.tracks.len())?;
+        Ok(Cdm { alloc, ids, parts })
     }
 
     /// The entries, in order.
@@ -110,7 +99,7 @@ impl Cdm {
         ensures items { result.now ≡ self.now.history }
         ensures legal { IsLegal self.now.tracks self.now.history }
     {
-        self.history.as_slice()
+        self.parts.chronicle.entries()
     }
 
     /// The track ids that were given to `new`, in order.
@@ -129,7 +118,7 @@ impl Cdm {
             return None;
         }
         let at = (place - 1) as usize;
-        let effects = self.effects.as_slice();
+        let effects = self.parts.chronicle.effects();
         if at < effects.len() {
             return Some(effects[at].as_slice());
         }
@@ -140,14 +129,14 @@ impl Cdm {
     pub fn output(&self, track: u32, index: u32) -> Option<&[u8]>
         ensures { MatchOption result (slice_get (out self.now.tracks self.now.history track) index ≡ None) (λ x. slice_get (out self.now.tracks self.now.history track) index ≡ Some x.now) }
     {
-        self.tracks.output(track, index)
+        self.parts.tracks.output(track, index)
     }
 
     /// Whether the track waits for a key.
     pub fn waiting(&self, track: u32) -> bool
         ensures { IsTrue result ↔ is_waiting (find_track (world self.now.tracks self.now.history).tracks track) }
     {
-        self.tracks.waiting(track)
+        self.parts.tracks.waiting(track)
     }
 
     /// A call of the application, and the number of its promise.
@@ -157,24 +146,16 @@ impl Cdm {
         ensures err { OnErr result (self.new ≡ self.old) }
         ensures back { IfErr result (λ b. b.call ≡ call) }
     {
-        let waits = self.places.len();
-        if reserve(&mut self.history, &mut self.effects, waits, &self.tracks, 1).is_err() {
+        if self.parts.reserve(1).is_err() {
             return Err(CallBack {
                 call,
                 error: AllocError,
             });
         }
-        match self.sessions.call(&call) {
+        match self.parts.sessions.call(&call) {
             Err(error) => Err(CallBack { call, error }),
             Ok(promise) => {
-                revoke_lost(&mut self.tracks, self.sessions.lost());
-                let did = self.sessions.take_effects();
-                append(
-                    &mut self.history,
-                    &mut self.effects,
-                    Entry::Call { lane, line, call },
-                    did,
-                );
+                self.parts.record_step(Entry::Call { lane, line, call });
                 Ok(promise)
             }
         }
@@ -186,17 +167,12 @@ impl Cdm {
         ensures err { OnErr result (self.new ≡ self.old) }
         ensures empty { IsErrOf result StepFault.Empty ↔ ((world self.old.tracks self.old.history).machine.jobs ≡ []) }
     {
-        let waits = self.places.len();
-        if !self.sessions.job_left() {
+        if !self.parts.sessions.job_left() {
             return Err(StepFault::Empty);
         }
-        if reserve(&mut self.history, &mut self.effects, waits, &self.tracks, 1).is_err() {
-            return Err(StepFault::OutOfMemory);
-        }
-        self.sessions.job()?;
-        revoke_lost(&mut self.tracks, self.sessions.lost());
-        let did = self.sessions.take_effects();
-        append(&mut self.history, &mut self.effects, Entry::Job, did);
+        self.parts.reserve(1)?;
+        self.parts.sessions.job()?;
+        self.parts.record_step(Entry::Job);
         Ok(())
     }
 
@@ -206,23 +182,16 @@ impl Cdm {
         ensures err { OnErr result (self.new ≡ self.old) }
         ensures empty { IsErrOf result StepFault.Empty ↔ ((world self.old.tracks self.old.history).machine.tasks ≡ []) }
     {
-        let waits = self.places.len();
-        if !self.sessions.task_left() {
+        if !self.parts.sessions.task_left() {
             return Err(StepFault::Empty);
         }
-        if reserve(&mut self.history, &mut self.effects, waits, &self.tracks, 1).is_err() {
-            return Err(StepFault::OutOfMemory);
-        }
+        self.parts.reserve(1)?;
         // The front task may be `Resume`, after which every track may begin to wait.
-        let awake = self.tracks.len();
-        if self.sessions.reserve_events(awake).is_err() {
-            return Err(StepFault::OutOfMemory);
-        }
-        let resume = self.sessions.task()?;
-        resume_if(resume, &self.sessions, &mut self.tracks);
-        revoke_lost(&mut self.tracks, self.sessions.lost());
-        let did = self.sessions.take_effects();
-        append(&mut self.history, &mut self.effects, Entry::Task, did);
+        let awake = self.parts.tracks.len();
+        self.parts.sessions.reserve_events(awake)?;
+        let resume = self.parts.sessions.task()?;
+        resume_if(resume, &self.parts.sessions, &mut self.parts.tracks);
+        self.parts.record_step(Entry::Task);
         Ok(())
     }
 
@@ -232,17 +201,9 @@ impl Cdm {
         ensures ok { OnOk result (self.new ≡ with_entry self.old (Tick line moment)) }
         ensures err { OnErr result (self.new ≡ self.old) }
     {
-        let waits = self.places.len();
-        reserve(&mut self.history, &mut self.effects, waits, &self.tracks, 1)?;
-        self.sessions.tick(moment)?;
-        revoke_lost(&mut self.tracks, self.sessions.lost());
-        let did = self.sessions.take_effects();
-        append(
-            &mut self.history,
-            &mut self.effects,
-            Entry::Tick { line, moment },
-            did,
-        );
+        self.parts.reserve(1)?;
+        self.parts.sessions.tick(moment)?;
+        self.parts.record_step(Entry::Tick { line, moment });
         Ok(())
     }
 
@@ -253,28 +214,14 @@ impl Cdm {
         ensures err { OnErr result (self.new ≡ self.old) }
         ensures back { IfErr result (λ b. b.fragment ≡ fragment) }
     {
-        let waits = self.places.len();
-        let taken = take_in(
-            self.alloc,
-            &mut self.history,
-            &mut self.effects,
-            &mut self.sessions,
-            &mut self.tracks,
-            waits,
-            &fragment,
-        );
-        let events = match taken {
+        let events = match self.parts.take_in(self.alloc, &fragment) {
             Err(error) => return Err(FeedBack { fragment, error }),
             Ok(events) => events,
         };
-        queue_events(&mut self.sessions, events);
-        let did = Effects::new(self.alloc);
-        append(
-            &mut self.history,
-            &mut self.effects,
-            Entry::Feed { line, fragment },
-            did,
-        );
+        queue_events(&mut self.parts.sessions, events);
+        self.parts
+            .chronicle
+            .append_unseen(Entry::Feed { line, fragment });
         Ok(())
     }
 
@@ -284,33 +231,26 @@ impl Cdm {
         ensures err { OnErr result (self.new ≡ self.old) }
         ensures no_work { IsErrOf result ClaimFault.NoWork → (track index session : ℕ) (kid : List ℕ) → MayClaim self.old.tracks self.old.history track index session kid → ⊥ }
     {
-        let waits = self.places.len();
-        if reserve(&mut self.history, &mut self.effects, waits, &self.tracks, 2).is_err() {
+        if self.parts.reserve(2).is_err() {
             return Err(ClaimFault::OutOfMemory);
         }
-        if self.places.reserve(1).is_err() {
+        if self.parts.undelivered.reserve(1).is_err() {
             return Err(ClaimFault::OutOfMemory);
         }
-        let place = self.history.next_place();
-        let taken = claim_sample(&mut self.tracks, &self.sessions, worker, place);
+        let place = self.parts.chronicle.next_place();
+        let taken = claim_sample(&mut self.parts.tracks, &self.parts.sessions, worker, place);
         let (claim, kid) = match taken {
             Err(fault) => return Err(fault),
             Ok(taken) => taken,
         };
-        self.places.push_reserved(place);
-        let did = Effects::new(self.alloc);
-        append(
-            &mut self.history,
-            &mut self.effects,
-            Entry::Claim {
-                worker,
-                track: claim.track,
-                index: claim.index,
-                session: claim.session,
-                kid,
-            },
-            did,
-        );
+        self.parts.undelivered.push_reserved(place);
+        self.parts.chronicle.append_unseen(Entry::Claim {
+            worker,
+            track: claim.track,
+            index: claim.index,
+            session: claim.session,
+            kid,
+        });
         Ok(claim)
     }
 
@@ -321,31 +261,20 @@ impl Cdm {
         ensures { Delivers self.old claim.place clear result self.new }
     {
         let place = claim.place;
-        close_place(&mut self.places, place);
-        let did = Effects::new(self.alloc);
-        match self.tracks.deliver(claim, clear) {
+        close_place(&mut self.parts.undelivered, place);
+        match self.parts.tracks.deliver(claim, clear) {
             Delivered::Taken => {
-                append(
-                    &mut self.history,
-                    &mut self.effects,
-                    Entry::Deliver {
-                        place,
-                        verdict: Verdict::Taken,
-                    },
-                    did,
-                );
+                self.parts.chronicle.append_unseen(Entry::Deliver {
+                    place,
+                    verdict: Verdict::Taken,
+                });
                 Delivered::Taken
             }
             Delivered::Stale(back) => {
-                append(
-                    &mut self.history,
-                    &mut self.effects,
-                    Entry::Deliver {
-                        place,
-                        verdict: Verdict::Stale,
-                    },
-                    did,
-                );
+                self.parts.chronicle.append_unseen(Entry::Deliver {
+                    place,
+                    verdict: Verdict::Stale,
+                });
                 Delivered::Stale(back)
             }
         }
@@ -357,15 +286,9 @@ impl Cdm {
         ensures { self.new ≡ with_entry self.old (GiveUp claim.place) }
     {
         let place = claim.place;
-        close_place(&mut self.places, place);
-        self.tracks.give_up(claim);
-        let did = Effects::new(self.alloc);
-        append(
-            &mut self.history,
-            &mut self.effects,
-            Entry::GiveUp { place },
-            did,
-        );
+        close_place(&mut self.parts.undelivered, place);
+        self.parts.tracks.give_up(claim);
+        self.parts.chronicle.append_unseen(Entry::GiveUp { place });
     }
 
     /// The first track whose next sample was delivered under a live claim gives it out.
@@ -375,22 +298,16 @@ impl Cdm {
         ensures err { OnErr result (self.new ≡ self.old) }
         ensures not_ready { OnErr result ((track index place : ℕ) → MayPublish self.old.tracks self.old.history track index place → ⊥) }
     {
-        let place = match self.tracks.ready() {
+        let place = match self.parts.tracks.ready() {
             None => return Err(NotReady),
             Some(ready) => ready.place,
         };
-        let published = self.tracks.publish()?;
-        let did = Effects::new(self.alloc);
-        append(
-            &mut self.history,
-            &mut self.effects,
-            Entry::Publish {
-                track: published.track,
-                index: published.index,
-                place,
-            },
-            did,
-        );
+        let published = self.parts.tracks.publish()?;
+        self.parts.chronicle.append_unseen(Entry::Publish {
+            track: published.track,
+            index: published.index,
+            place,
+        });
         Ok(published)
     }
 
@@ -401,17 +318,11 @@ impl Cdm {
         ensures err { OnErr result (self.new ≡ self.old) }
         ensures not_ready { OnErr result ((track index : ℕ) → MayPassClear self.old.tracks self.old.history track index → ⊥) }
     {
-        let next = self.tracks.pass_clear()?;
-        let did = Effects::new(self.alloc);
-        append(
-            &mut self.history,
-            &mut self.effects,
-            Entry::PassClear {
-                track: next.track,
-                index: next.index,
-            },
-            did,
-        );
+        let next = self.parts.tracks.pass_clear()?;
+        self.parts.chronicle.append_unseen(Entry::PassClear {
+            track: next.track,
+            index: next.index,
+        });
         Ok(next)
     }
 
@@ -422,15 +333,13 @@ impl Cdm {
         ensures err { OnErr result (self.new ≡ self.old) }
         ensures not_waiting { OnErr result ((track : ℕ) → MayWait self.old.tracks self.old.history track → ⊥) }
     {
-        let track = self.tracks.wait_for_key(&self.sessions)?;
-        self.sessions.queue_event(Event::WaitingForKey { track });
-        let did = Effects::new(self.alloc);
-        append(
-            &mut self.history,
-            &mut self.effects,
-            Entry::WaitForKey { track },
-            did,
-        );
+        let track = self.parts.tracks.wait_for_key(&self.parts.sessions)?;
+        self.parts
+            .sessions
+            .queue_event(Event::WaitingForKey { track });
+        self.parts
+            .chronicle
+            .append_unseen(Entry::WaitForKey { track });
         Ok(track)
     }
 
@@ -441,27 +350,20 @@ impl Cdm {
         ensures fault { IfErr result (HasNotSettled (world self.old.tracks self.old.history)) }
         ensures err { OnErr result (self.new ≡ self.old) }
     {
-        if self.sessions.job_left() {
+        if self.parts.sessions.job_left() {
             return Err(SettleFault::Job);
         }
-        if self.sessions.task_left() {
+        if self.parts.sessions.task_left() {
             return Err(SettleFault::Task);
         }
-        match self.tracks.unrested(&self.sessions) {
+        match self.parts.tracks.unrested(&self.parts.sessions) {
             Some(track) => return Err(SettleFault::Track(track)),
             None => {}
         }
-        let waits = self.places.len();
-        if reserve(&mut self.history, &mut self.effects, waits, &self.tracks, 1).is_err() {
+        if self.parts.reserve(1).is_err() {
             return Err(SettleFault::OutOfMemory);
         }
-        let did = Effects::new(self.alloc);
-        append(
-            &mut self.history,
-            &mut self.effects,
-            Entry::Settle { line },
-            did,
-        );
+        self.parts.chronicle.append_unseen(Entry::Settle { line });
         Ok(())
     }
 }
@@ -477,10 +379,11 @@ fn resume_if(asked: bool, sessions: &Sessions, tracks: &mut Tracks)
 
 /// A copy of a sample's key id.
 fn kid_of(sample: &EncSample) -> Result<KeyId, AllocError>
+    requires { sample.now.protect ≢ None }
     ensures { IfOk result (HasKid sample.now) }
 {
     match &sample.protect {
-        None => Err(AllocError),
+        None => unreachable!(),
         Some(protect) => protect.kid.copy(),
     }
 }

@@ -7,12 +7,14 @@ use Rattle.eme_types.specs.declared.sample.EncSample.{EncSample}
 use Rattle.eme_types.specs.declared.sample.Protect.{Protect}
 use Rattle.eme_types.specs.declared.media.TrackPart.{TrackPart}
 
+-- a track: its id; the samples that were fed to it, in order; how many of them are out; whether it waits for a key
 pub record TrackState : Type 0 where
   pub id : ℕ
   pub fed : List EncSample
   pub published : ℕ
   pub waiting : Bool
 
+-- nothing is fed, and the track does not wait
 abbrev pub empty_track : ℕ → TrackState
 empty_track id = record { id = id; fed = []; published = 0; waiting = false }
 
@@ -30,15 +32,19 @@ change_track (t ∷ more) id f = if t.id == id then f t ∷ more else t ∷ chan
 abbrev pub head : TrackState → Option EncSample
 head t = slice_get t.fed t.published
 
+-- one more sample is out
 abbrev pub one_more : TrackState → TrackState
 one_more t = record t { published = t.published + 1 }
 
+-- the track waits for a key
 abbrev pub set_waiting : TrackState → TrackState
 set_waiting t = record t { waiting = true }
 
+-- the samples are fed behind those that were
 abbrev pub add_samples : List EncSample → TrackState → TrackState
 add_samples samples t = record t { fed = t.fed ++ samples }
 
+-- the samples of a part are added to its track
 abbrev pub feed_part : List TrackState → TrackPart → List TrackState
 feed_part tracks part = change_track tracks part.track (add_samples part.samples)
 
@@ -46,9 +52,11 @@ feed_part tracks part = change_track tracks part.track (add_samples part.samples
 abbrev pub feed_parts : List TrackState → List TrackPart → List TrackState
 feed_parts tracks parts = fold feed_part tracks parts
 
+-- from a key id to the session and the key that would be used for it
 abbrev pub Picks : Type 0
 Picks = List ℕ → Option (ℕ × KeyBytes)
 
+-- the sample is protected and its key id has a pick
 abbrev pub protect_picked : Picks → Option Protect → Bool
 protect_picked picks None = false
 protect_picked picks (Some p) = is_some (picks p.kid)
@@ -62,6 +70,7 @@ has_pick picks (Some sample) = protect_picked picks sample.protect
 abbrev pub resumed_track : Picks → TrackState → TrackState
 resumed_track picks t = if has_pick picks (head t) then record t { waiting = false } else t
 
+-- each track whose head has a pick no longer waits
 abbrev pub resumed : Picks → List TrackState → List TrackState
 resumed picks tracks = map (resumed_track picks) tracks
 
@@ -70,6 +79,7 @@ abbrev pub Unpicked : Picks → Option Protect → Type 0
 Unpicked picks None = ⊥
 Unpicked picks (Some p) = picks p.kid ≡ None
 
+-- there is no head, or the track waits and the head's key id has no pick
 abbrev pub HeadAtRest : Picks → TrackState → Option EncSample → Type 0
 HeadAtRest picks t None = Unit {0}
 HeadAtRest picks t (Some sample) = IsTrue t.waiting × Unpicked picks sample.protect

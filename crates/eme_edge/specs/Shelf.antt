@@ -1,5 +1,5 @@
 -- What a shelf shows of itself, and what its calls do to that.
-use Rattle.std.specs.Prelude.{ℕ, ◌≡◌, ◌≢◌, ◌≤◌, ◌+◌, ◌-◌, ◌^◌, min, Bool, List, ◌++◌, length, take, drop, IsTrue, IsErrOf, Option, Some, None, IsNone, Result, Ok, Err, ◌⊎◌}
+use Rattle.std.specs.Prelude.{ℕ, ◌≡◌, ◌≢◌, ◌≤◌, ◌+◌, ◌-◌, ◌^◌, min, Bool, List, ◌++◌, length, take, drop, IsTrue, IsOk, IsErrOf, Option, Some, None, IsNone, Result, Ok, Err, ◌⊎◌}
 use Rattle.eme_edge.specs.declared.shelf.ShelfFault.{ShelfFault}
 use Rattle.eme_edge.specs.declared.shelf.ShelfFault.TheVariants.{Failed, OutOfMemory}
 
@@ -44,16 +44,22 @@ ReadsFile (Some bytes) place buf (Ok n) = ReadsAt bytes place n buf
 ReadsFile None place buf (Ok n) = ⊥
 ReadsFile file place buf (Err e) = Unit {0}
 
+-- a read fault is counted exactly where the call answers one, and once
 pub record ReadCause (old new : ShelfState) (name : List ℕ) (result : Result ℕ ShelfFault) : Type 0 where
   pub later : old.read_faults ≤ new.read_faults
+  pub once : new.read_faults ≤ old.read_faults + 1
+  pub answered : IsOk result → new.read_faults ≡ old.read_faults
   pub writes : new.write_faults ≡ old.write_faults
   pub failed : IsErrOf result Failed → Rose old.read_faults new.read_faults ⊎ (IsTrue old.tells_files × IsNone (old.file name))
   pub memory : IsErrOf result OutOfMemory → new.read_faults ≡ old.read_faults
   -- a shelf that tells its files does not count a missing one
   pub missing : IsTrue old.tells_files → IsNone (old.file name) → new.read_faults ≡ old.read_faults
 
+-- a write fault is counted exactly where the call answers one, and once
 pub record WriteCause (old new : ShelfState) (result : Result Unit ShelfFault) : Type 0 where
   pub later : old.write_faults ≤ new.write_faults
+  pub once : new.write_faults ≤ old.write_faults + 1
+  pub answered : IsOk result → new.write_faults ≡ old.write_faults
   pub reads : new.read_faults ≡ old.read_faults
   pub failed : IsErrOf result Failed → Rose old.write_faults new.write_faults
   pub memory : IsErrOf result OutOfMemory → new.write_faults ≡ old.write_faults

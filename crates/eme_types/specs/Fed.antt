@@ -17,21 +17,27 @@ abbrev pub are_distinct : List ℕ → Bool
 are_distinct [] = true
 are_distinct (id ∷ more) = not (is_among more id) && are_distinct more
 
+-- the track of a part
 abbrev pub part_track : TrackPart → ℕ
 part_track p = p.track
 
+-- how many samples a part has
 abbrev pub part_samples : TrackPart → ℕ
 part_samples p = length p.samples
 
+-- how many bytes a sample has
 abbrev pub sample_bytes : EncSample → ℕ
 sample_bytes s = length s.bytes
 
+-- how many bytes the samples of a part have
 abbrev pub part_bytes : TrackPart → ℕ
 part_bytes p = sum_by sample_bytes p.samples
 
+-- how many samples a fragment has
 abbrev pub fragment_samples : Fragment → ℕ
 fragment_samples f = sum_by part_samples f.parts
 
+-- how many bytes the samples of a fragment have
 abbrev pub fragment_bytes : Fragment → ℕ
 fragment_bytes f = sum_by part_bytes f.parts
 
@@ -43,6 +49,7 @@ are_well_formed f = list_all (λ p. list_all is_well_formed p.samples) f.parts
 abbrev pub are_known : List ℕ → Fragment → Bool
 are_known ids f = list_all (λ p. is_among ids p.track) f.parts
 
+-- the part has a sample
 abbrev pub has_samples : TrackPart → Bool
 has_samples p = not (length p.samples == 0)
 

@@ -9,6 +9,7 @@ use Rattle.eme_types.specs.declared.sample.Iv.TheVariants.{Eight, Sixteen}
 use Rattle.eme_types.specs.declared.sample.Scheme.{Scheme}
 use Rattle.eme_types.specs.declared.sample.Scheme.TheVariants.{Cenc, Cbcs}
 
+-- the bytes of a subsample, clear and protected
 abbrev pub sub_length : Sub → ℕ
 sub_length s = s.clear + s.prot
 
@@ -28,9 +29,11 @@ abbrev pub pattern_fits : Scheme → ℕ → ℕ → Bool
 pattern_fits Cenc crypt skip = true
 pattern_fits Cbcs crypt skip = not (crypt == 0) || skip == 0
 
+-- the subsamples, the IV and the pattern fit the sample and its scheme
 abbrev pub is_well_protected : Option Protect → ℕ → Bool
 is_well_protected None size = true
 is_well_protected (Some p) size = is_covered p.subs size && iv_fits p.scheme p.iv && pattern_fits p.scheme p.crypt p.skip
 
+-- the sample can be opened
 abbrev pub is_well_formed : EncSample → Bool
 is_well_formed s = is_well_protected s.protect (length s.bytes)

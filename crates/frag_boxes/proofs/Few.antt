@@ -1,18 +1,20 @@
 -- The lists of a movie and of a fragment have together no more items than the box has bytes.
-use Rattle.std.proofs.Common.{◌≡◌, ℕ, zero, suc, ◌+◌, ◌≤◌, Bool, true, false, cond, List, [], ◌∷◌, length, map, take, drop, Option, Some, None, Result, Ok, Err, refl, ap, subst, arith}
-use Rattle.std.specs.Prelude.{IfOk, nat_lt, ◌==◌, ◌||◌, find, codes}
+use Rattle.std.proofs.Common.{◌≡◌, ℕ, zero, suc, ◌+◌, ◌≤◌, Bool, true, false, cond, List, [], ◌∷◌, ◌++◌, length, map, take, drop, Option, Some, None, Result, Ok, Err, refl, ap, subst, arith}
+use Rattle.std.specs.Prelude.{IfOk, nat_lt, ◌==◌, ◌||◌, find, codes, bytes_eq}
+use Rattle.std.proofs.lemmas.Slice.Eq.{bytes_eq-Decides}
 use Rattle.std.specs.Int.{w8, w32}
 use Rattle.std.proofs.lemmas.List.{length-drop}
+use Rattle.eme_types.specs.declared.limits.TheConstants.{MAX_TRACKS}
 use Rattle.iso_boxes.specs.declared.walk.BoxFault.{BoxFault}
 use Rattle.iso_boxes.specs.Walk.{Found, Walked, inside, walk}
 use Rattle.iso_boxes.specs.Children.{◌>>=◌, each_knowing, if_any, ended, all_read, first_read, required, first, placed}
 use Rattle.iso_boxes.specs.Reading.{yield, given, repeated, has}
 use Rattle.iso_boxes.proofs.Walking.{not_err}
-use Rattle.iso_boxes.proofs.Repeating.{Takes, counted}
+use Rattle.iso_boxes.proofs.Bounds.{Bounded, one, one_if, given_one, given_nothing, signed_takes, number_takes, number24_takes, yield_takes, bind_takes, field_then, named_takes, repeated_takes, weaker, few_of}
 use Rattle.frag_boxes.specs.declared.fault.FragKind.{FragKind}
 use Rattle.frag_boxes.specs.declared.fault.FragKind.TheVariants.{Short, NoSinf, NoTfhd, NoTrackId}
 use Rattle.frag_boxes.specs.declared.fault.FragFault.{FragFault}
-use Rattle.frag_boxes.specs.declared.records.RunItem.{RunItem}
+use Rattle.frag_boxes.specs.declared.records.Span.{Span}
 use Rattle.frag_boxes.specs.declared.records.Trun.{Trun}
 use Rattle.frag_boxes.specs.declared.records.Traf.{Traf}
 use Rattle.frag_boxes.specs.declared.records.Moof.{Moof}
@@ -44,71 +46,59 @@ use Rattle.frag_boxes.specs.declared.moov.MoovBox.TheVariants as moov
 use Rattle.frag_boxes.specs.declared.moov.MoovPart.{MoovPart}
 use Rattle.frag_boxes.specs.declared.moov.MoovPart.TheVariants as moov_part
 use Rattle.frag_boxes.specs.Fields.{u8, u24, u32, i32, item, has_items, items, trun_fields, tfhd_fields, stsd_fields, stsz_fields, audio_version}
-use Rattle.frag_boxes.specs.Moof.{GivesBox, fault_at, header_fault, span, traf_box, part_as, part_at, head_seen, heads, runs, sencs, saizs, saios, sgpds, sbgps, traf_from, traf_at, moof_box, moof_part_as, moof_part_at, trafs, psshs, moof_at}
+use Rattle.frag_boxes.specs.Moof.{GivesBox, fault_at, header_fault, span, traf_box, part_as, part_at, head_seen, heads, runs, spans_of, traf_from, traf_at, moof_box, moof_part_as, moof_part_at, trafs, psshs, moof_at}
 use Rattle.frag_boxes.specs.Table.{is, behind, somes, entry_box, sinf_part, sinfs_at, protected_at, entry_as, entry_at, enough, entries_in, entries_at, stsd_at, stbl_box, stbl_part_as, stbl_part_at, stsd_seen, entries_of, groups, or_nothing, stbl_at, or_none, minf_at, mdia_at}
 use Rattle.frag_boxes.specs.Moov.{Seen, tkhd_at, trak_box, trak_part_as, trak_part_at, saw, ids, tables, track, track_from, trak_at, mvex_at, with_trex, moov_box, moov_part_as, moov_part_at, with_track, tracks_of, moov_psshs, trexes_of, moov_at}
 use Rattle.frag_boxes.specs.Counts.{count_of, entry_items, track_items, movie_items, run_items, traf_items, moof_items}
-use Rattle.frag_boxes.proofs.Taking.{then_ok, read_ok, body_len, walk_took, total, Small, each_small, all_small, number_takes, number24_takes, signed_takes, one_if, given_takes, yielded_size, some_size}
+use Rattle.frag_boxes.proofs.Taking.{then_ok, not_else, body_len, walk_took, total, Small, each_small, all_small, some_size}
 
 -- ---- a run
 
-u32_takes : Takes {E = FragKind} 1 u32
+u32_takes : Bounded {E = FragKind} one u32
 u32_takes = number_takes Short w32 1 (omega arith)
 
--- the flags of a run's fields of each sample give one byte at least for each that is set
-item_takes : (flags : ℕ) → Takes (one_if (has 0x100 flags) + one_if (has 0x200 flags) + one_if (has 0x400 flags) + one_if (has 0x800 flags)) (item flags)
-unfolding item
-item_takes flags bytes x after h =
-    let p = read_ok (given (has 0x100 flags) u32 bytes) _ (x, after) h in
-    let q = read_ok (given (has 0x200 flags) u32 p.0.1) _ (x, after) p.2 in
-    let r = read_ok (given (has 0x400 flags) u32 q.0.1) _ (x, after) q.2 in
-    let s = read_ok (given (has 0x800 flags) u32 r.0.1) _ (x, after) r.2 in
-    let a = given_takes (has 0x100 flags) u32 u32_takes bytes p.0.0 p.0.1 p.1 in
-    let b = given_takes (has 0x200 flags) u32 u32_takes p.0.1 q.0.0 q.0.1 q.1 in
-    let c = given_takes (has 0x400 flags) u32 u32_takes q.0.1 r.0.0 r.0.1 r.1 in
-    let d = given_takes (has 0x800 flags) u32 u32_takes r.0.1 s.0.0 s.0.1 s.1 in
-    let e = yielded_size (λ (y : RunItem). 0) _ x s.0.1 after s.2 in
-    omega (arith, a, b, c, d, e)
+abbrev flags_set : ℕ → ℕ
+flags_set flags = one_if (has 0x100 flags) + (one_if (has 0x200 flags) + (one_if (has 0x400 flags) + one_if (has 0x800 flags)))
 
-one_of : (a b c d : Bool) → (a || b || c || d) ≡ true → 1 ≤ one_if a + one_if b + one_if c + one_if d
+-- the flags of a run's fields of each sample give one byte at least for each that is set
+item_takes : (flags : ℕ) → Bounded (λ i. flags_set flags) (item flags)
+unfolding item
+item_takes flags =
+    let a = one_if (has 0x100 flags) in
+    let b = one_if (has 0x200 flags) in
+    let c = one_if (has 0x400 flags) in
+    let d = one_if (has 0x800 flags) in
+    bind_takes a (λ y. b + (c + d)) (λ y. a + (b + (c + d))) (given (has 0x100 flags) u32) _ (given_one (has 0x100 flags) u32 u32_takes) (λ duration.
+    bind_takes b (λ y. c + d) (λ y. b + (c + d)) (given (has 0x200 flags) u32) _ (given_one (has 0x200 flags) u32 u32_takes) (λ size.
+    bind_takes c (λ y. d) (λ y. c + d) (given (has 0x400 flags) u32) _ (given_one (has 0x400 flags) u32 u32_takes) (λ sample_flags.
+    named_takes (λ o. d) (λ y. d) (given (has 0x800 flags) u32) _ (given_one (has 0x800 flags) u32 u32_takes) (λ composition. refl)) (λ y. omega arith)) (λ y. omega arith)) (λ y. omega arith)
+
+one_of : (a b c d : Bool) → (a || b || c || d) ≡ true → 1 ≤ one_if a + (one_if b + (one_if c + one_if d))
 one_of true b c d h = omega arith
 one_of false true c d h = omega arith
 one_of false false true d h = omega arith
 one_of false false false true h = omega arith
 one_of false false false false h = absurd cc
 
-one_item_takes : (flags : ℕ) → has_items flags ≡ true → Takes 1 (item flags)
-one_item_takes flags h bytes x after e =
-    let t = item_takes flags bytes x after e in
+one_item_takes : (flags : ℕ) → has_items flags ≡ true → Bounded one (item flags)
+one_item_takes flags h =
     let o = one_of (has 0x100 flags) (has 0x200 flags) (has 0x400 flags) (has 0x800 flags) h in
-    omega (arith, t, o)
+    weaker (λ i. flags_set flags) one (item flags) (item_takes flags) (λ i. omega (arith, o))
 
-items_at : (c : Bool) (count flags : ℕ) → (c ≡ true → Takes 1 (item flags)) → (bytes : List ℕ) (xs : List RunItem) (after : List ℕ) → cond c (repeated count (item flags)) (yield []) bytes ≡ Ok (xs, after) → length xs ≤ length bytes
-items_at true count flags takes bytes xs after h =
-    let c = counted (item flags) 1 (takes refl) count bytes (xs, after) h in
-    omega (arith, c.many, c.taken)
-items_at false count flags takes bytes xs after h =
-    let e = yielded_size (λ (ys : List RunItem). length ys) [] xs bytes after h in
-    omega (arith, e)
+items_take : (c : Bool) (count flags : ℕ) → (c ≡ true → Bounded one (item flags)) → Bounded length (cond c (repeated count (item flags)) (yield []))
+items_take true count flags takes = repeated_takes count (item flags) (takes refl)
+items_take false count flags takes = yield_takes length [] refl
 
 -- a run has no more items than its box has bytes
-trun_few : (place : ℕ) (bytes : List ℕ) (t : Trun × List ℕ) → trun_fields place bytes ≡ Ok t → length t.0.items ≤ length bytes
+trun_takes : (place : ℕ) → Bounded run_items (trun_fields place)
 unfolding trun_fields
-trun_few place bytes t h =
-    let p = read_ok (u8 bytes) _ t h in
-    let q = read_ok (u24 p.0.1) _ t p.2 in
-    let r = read_ok (u32 q.0.1) _ t q.2 in
-    let s = read_ok (given (has 0x1 q.0.0) i32 r.0.1) _ t r.2 in
-    let f = read_ok (given (has 0x4 q.0.0) u32 s.0.1) _ t s.2 in
-    let i = read_ok (items r.0.0 q.0.0 f.0.1) _ t f.2 in
-    let a = number_takes Short w8 0 (omega arith) bytes p.0.0 p.0.1 p.1 in
-    let b = number24_takes Short p.0.1 q.0.0 q.0.1 q.1 in
-    let c = u32_takes q.0.1 r.0.0 r.0.1 r.1 in
-    let d = given_takes (has 0x1 q.0.0) i32 (signed_takes Short) r.0.1 s.0.0 s.0.1 s.1 in
-    let e = given_takes (has 0x4 q.0.0) u32 u32_takes s.0.1 f.0.0 f.0.1 f.1 in
-    let few = items_at (has_items q.0.0) r.0.0 q.0.0 (one_item_takes q.0.0) f.0.1 i.0.0 i.0.1 i.1 in
-    let y = yielded_size run_items _ t.0 i.0.1 t.1 i.2 in
-    omega (arith, a, b, c, d, e, few, y)
+trun_takes place =
+    field_then run_items u8 _ (number_takes Short w8 0 (omega arith)) (λ version.
+    field_then run_items u24 _ (number24_takes Short) (λ flags.
+    field_then run_items u32 _ (number_takes Short w32 0 (omega arith)) (λ count.
+    field_then run_items (given (has 0x1 flags) i32) _ (given_nothing (has 0x1 flags) i32 (signed_takes Short)) (λ offset.
+    field_then run_items (given (has 0x4 flags) u32) _ (given_nothing (has 0x4 flags) u32 (number_takes Short w32 0 (omega arith))) (λ first_flags.
+    named_takes length run_items (items count flags) _ (items_take (has_items flags) count flags (one_item_takes flags)) (λ xs. refl))))))
 
 -- ---- sample entries
 
@@ -120,11 +110,6 @@ somes_total : {A : Type 0} (os : List (Option A)) → length (somes os) ≡ tota
 somes_total [] = refl
 somes_total (None ∷ os) = omega (arith, somes_total os)
 somes_total (Some x ∷ os) = omega (arith, somes_total os)
-
--- where the answer is the other one
-not_else : {A E : Type 0} (c : Bool) (r : Result A E) (e : E) (y : A) → cond c r (Err e) ≡ Ok y → r ≡ Ok y
-not_else true r e y h = h
-not_else false r e y h = absurd cc
 
 inside_took : (b : Found) → count_of body_len (inside b).boxes ≤ length b.body
 inside_took b = walk_took b.body b.body_place false
@@ -342,7 +327,7 @@ moov_size moov_part.Other = 0
 
 moov_small_as : (k : MoovBox) (tracks : List MovieTrack) (b : Found) (p : MoovPart) → moov_part_as k tracks b ≡ Ok p → moov_size p ≤ 1 + length b.body
 moov_small_as moov.Trak tracks b p h =
-    let g = not_else (nat_lt (length tracks) 8) _ _ p h in
+    let g = not_else (nat_lt (length tracks) MAX_TRACKS) _ _ p h in
     let q = then_ok (trak_at tracks b) _ p g in
     let few = trak_few tracks b q.0 q.1 in
     same_size moov_size (moov_part.Track q.0) p _ (omega (arith, few)) cc
@@ -377,11 +362,7 @@ moov_few b m h =
 abbrev traf_size : TrafPart → ℕ
 traf_size (traf_part.Head h) = 0
 traf_size (traf_part.Run r) = 1 + run_items r
-traf_size (traf_part.Senc x) = 1
-traf_size (traf_part.Saiz x) = 1
-traf_size (traf_part.Saio x) = 1
-traf_size (traf_part.Sgpd x) = 1
-traf_size (traf_part.Sbgp x) = 1
+traf_size (traf_part.Placed k x) = 1
 traf_size traf_part.Other = 0
 
 placed_ok : {E K A : Type 0} (at : K → E) (r : Result (A × List ℕ) K) (x : A) → placed at r ≡ Ok x → (y : A × List ℕ) × (r ≡ Ok y) × (y.0 ≡ x)
@@ -391,7 +372,7 @@ placed_ok at (Err k) x h = absurd cc
 run_few : (b : Found) (r : Trun) → placed (fault_at b.place) (trun_fields b.place b.body) ≡ Ok r → run_items r ≤ length b.body
 run_few b r h =
     let p = placed_ok (fault_at b.place) (trun_fields b.place b.body) r h in
-    same_size run_items p.0.0 r _ (trun_few b.place b.body p.0 p.1) p.2
+    same_size run_items p.0.0 r _ (few_of _ _ _ ((trun_takes b.place).bound b.body p.0.0 p.0.1 p.1)) p.2
 
 traf_small_as : (k : TrafBox) (seen : Bool) (b : Found) (p : TrafPart) → part_as k seen b ≡ Ok p → traf_size p ≤ 1 + length b.body
 traf_small_as traf.Tfhd true b p h = same_size traf_size traf_part.Other p _ (omega arith) cc
@@ -402,23 +383,52 @@ traf_small_as traf.Trun seen b p h =
     let q = then_ok (placed (fault_at b.place) (trun_fields b.place b.body)) _ p h in
     let few = run_few b q.0 q.1 in
     same_size traf_size (traf_part.Run q.0) p _ (omega (arith, few)) cc
-traf_small_as traf.Senc seen b p h = same_size traf_size (traf_part.Senc (span b)) p _ (omega arith) cc
-traf_small_as traf.Saiz seen b p h = same_size traf_size (traf_part.Saiz (span b)) p _ (omega arith) cc
-traf_small_as traf.Saio seen b p h = same_size traf_size (traf_part.Saio (span b)) p _ (omega arith) cc
-traf_small_as traf.Sgpd seen b p h = same_size traf_size (traf_part.Sgpd (span b)) p _ (omega arith) cc
-traf_small_as traf.Sbgp seen b p h = same_size traf_size (traf_part.Sbgp (span b)) p _ (omega arith) cc
-traf_small_as traf.Other seen b p h = same_size traf_size traf_part.Other p _ (omega arith) cc
+traf_small_as traf.Other seen b p h = same_size traf_size (traf_part.Placed b.kind (span b)) p _ (omega arith) cc
 
-traf_total : (ps : List TrafPart) → count_of run_items (runs ps) + length (sencs ps) + length (saizs ps) + length (saios ps) + length (sgpds ps) + length (sbgps ps) ≡ total traf_size ps
-traf_total [] = refl
-traf_total (traf_part.Head h ∷ ps) = omega (arith, traf_total ps)
-traf_total (traf_part.Run r ∷ ps) = omega (arith, traf_total ps)
-traf_total (traf_part.Senc x ∷ ps) = omega (arith, traf_total ps)
-traf_total (traf_part.Saiz x ∷ ps) = omega (arith, traf_total ps)
-traf_total (traf_part.Saio x ∷ ps) = omega (arith, traf_total ps)
-traf_total (traf_part.Sgpd x ∷ ps) = omega (arith, traf_total ps)
-traf_total (traf_part.Sbgp x ∷ ps) = omega (arith, traf_total ps)
-traf_total (traf_part.Other ∷ ps) = omega (arith, traf_total ps)
+-- a box has one type, so it stands in one list at most
+abbrev times : List ℕ → List ℕ → ℕ
+times kind k = one_if (bytes_eq k kind)
+
+last_kind : (c : Bool) → one_if c ≤ 1
+last_kind true = omega arith
+last_kind false = omega arith
+
+other_at : (c : Bool) (a k : List ℕ) (rest : List ℕ → ℕ) → (c ≡ true → k ≡ a) → rest a ≡ 0 → rest k ≤ 1 → one_if c + rest k ≤ 1
+other_at true a k rest same none few = omega (arith, ap rest (same refl), none)
+other_at false a k rest same none few = omega (arith, few)
+
+other_kind : (a k : List ℕ) (rest : List ℕ → ℕ) → rest a ≡ 0 → rest k ≤ 1 → times a k + rest k ≤ 1
+other_kind a k rest none few = other_at (bytes_eq k a) a k rest (bytes_eq-Decides k a).0 none few
+
+one_kind : (k : List ℕ) → times (codes "senc") k + (times (codes "saiz") k + (times (codes "saio") k + (times (codes "sgpd") k + times (codes "sbgp") k))) ≤ 1
+one_kind k =
+    other_kind (codes "senc") k (λ k. times (codes "saiz") k + (times (codes "saio") k + (times (codes "sgpd") k + times (codes "sbgp") k))) refl
+    (other_kind (codes "saiz") k (λ k. times (codes "saio") k + (times (codes "sgpd") k + times (codes "sbgp") k)) refl
+    (other_kind (codes "saio") k (λ k. times (codes "sgpd") k + times (codes "sbgp") k) refl
+    (other_kind (codes "sgpd") k (times (codes "sbgp")) refl (last_kind _))))
+
+placed_at : (c : Bool) (x : Span) (rest : List Span) → length (cond c (x ∷ []) [] ++ rest) ≡ one_if c + length rest
+placed_at true x rest = omega arith
+placed_at false x rest = omega arith
+
+abbrev many : List ℕ → List TrafPart → ℕ
+many kind ps = length (spans_of kind ps)
+
+placed_more : (kind k : List ℕ) (x : Span) (ps : List TrafPart) → many kind (traf_part.Placed k x ∷ ps) ≡ times kind k + many kind ps
+placed_more kind k x ps = placed_at (bytes_eq k kind) x (spans_of kind ps)
+
+abbrev all_lists : List TrafPart → ℕ
+all_lists ps = count_of run_items (runs ps) + many (codes "senc") ps + many (codes "saiz") ps + many (codes "saio") ps + many (codes "sgpd") ps + many (codes "sbgp") ps
+
+traf_total : (ps : List TrafPart) → all_lists ps ≤ total traf_size ps
+traf_total [] = omega arith
+traf_total (traf_part.Head h ∷ ps) = let t = traf_total ps in omega (arith, t)
+traf_total (traf_part.Run r ∷ ps) = let t = traf_total ps in omega (arith, t)
+traf_total (traf_part.Placed k x ∷ ps) =
+    let t = traf_total ps in
+    let n = one_kind k in
+    omega (arith, t, n, placed_more (codes "senc") k x ps, placed_more (codes "saiz") k x ps, placed_more (codes "saio") k x ps, placed_more (codes "sgpd") k x ps, placed_more (codes "sbgp") k x ps)
+traf_total (traf_part.Other ∷ ps) = let t = traf_total ps in omega (arith, t)
 
 traf_few : (b : Found) (t : Traf) → traf_at b ≡ Ok t → traf_items t ≤ length b.body
 unfolding traf_at
@@ -426,8 +436,9 @@ traf_few b t h =
     let p = then_ok _ (traf_from b.place) t h in
     let q = then_ok (required (fault_at b.place NoTfhd) (first (heads p.0))) _ t p.2 in
     let small = all_small header_fault traf_size part_at head_seen (λ seen b p e. traf_small_as (traf_box b.kind) seen b p e) false (inside b) p.0 p.1 in
+    let few = traf_total p.0 in
     let took = inside_took b in
-    same_size traf_items (record { place = b.place; tfhd = q.0; runs = runs p.0; senc = sencs p.0; saiz = saizs p.0; saio = saios p.0; sgpd = sgpds p.0; sbgp = sbgps p.0 }) t _ (omega (arith, small, took, traf_total p.0)) cc
+    same_size traf_items (record { place = b.place; tfhd = q.0; runs = runs p.0; senc = spans_of (codes "senc") p.0; saiz = spans_of (codes "saiz") p.0; saio = spans_of (codes "saio") p.0; sgpd = spans_of (codes "sgpd") p.0; sbgp = spans_of (codes "sbgp") p.0 }) t _ (omega (arith, small, took, few)) cc
 
 abbrev moof_size : MoofPart → ℕ
 moof_size (moof_part.Fragment t) = 1 + traf_items t

@@ -1,13 +1,12 @@
 -- A track fragment is gathered box after box.
-use Rattle.std.proofs.Common.{◌≡◌, ℕ, Bool, true, List, [], ◌∷◌, ◌++◌, Option, Some, None, Result, Ok, refl, ◌∙◌, append_assoc}
-use Rattle.std.specs.Prelude.{is_some}
+use Rattle.std.proofs.Common.{◌≡◌, ℕ, Bool, List, [], ◌∷◌, ◌++◌, None, Result, Ok, refl, ◌∙◌, append_assoc}
+use Rattle.std.specs.Prelude.{is_some, codes}
 use Rattle.std.proofs.lemmas.List.{append-nil}
 use Rattle.iso_boxes.specs.Walk.{Found, Walked, inside}
-use Rattle.iso_boxes.specs.Children.{◌>>=◌, required, first}
-use Rattle.iso_boxes.proofs.Gathering.{Reader, Gathers, left, ends}
+use Rattle.iso_boxes.specs.Children.{◌>>=◌, required}
+use Rattle.iso_boxes.proofs.Gathering.{Reader, Gathers, left, ends, chosen, chosen_more, chosen_none, known_more}
 use Rattle.frag_boxes.specs.declared.fault.FragKind.TheVariants.{NoTfhd}
 use Rattle.frag_boxes.specs.declared.fault.FragFault.{FragFault}
-use Rattle.frag_boxes.specs.declared.records.Tfhd.{Tfhd}
 use Rattle.frag_boxes.specs.declared.records.Traf.{Traf}
 use Rattle.frag_boxes.specs.declared.records.Moof.{Moof}
 use Rattle.frag_boxes.specs.declared.moof.TrafPart.{TrafPart}
@@ -16,47 +15,27 @@ use Rattle.frag_boxes.specs.declared.moof.TrafParts.{TrafParts}
 use Rattle.frag_boxes.specs.declared.moof.MoofParts.{MoofParts}
 use Rattle.frag_boxes.specs.declared.moof.MoofPart.{MoofPart}
 use Rattle.frag_boxes.specs.declared.moof.MoofPart.TheVariants as moof_part
-use Rattle.frag_boxes.specs.Moof.{fault_at, header_fault, part_at, head_seen, heads, runs, sencs, saizs, saios, sgpds, sbgps, traf_at, moof_part_at, trafs, psshs, moof_at}
-use Rattle.frag_boxes.specs.Gathering.{nothing, first_or, added, moof_added}
-
-abbrev chosen : Option Tfhd → List Tfhd → Option Tfhd
-chosen None hs = first hs
-chosen (Some h) hs = Some h
+use Rattle.frag_boxes.specs.Moof.{fault_at, header_fault, part_at, head_seen, heads, runs, spans_of, traf_at, moof_part_at, trafs, psshs, moof_at}
+use Rattle.frag_boxes.specs.Gathering.{nothing, added, moof_added}
 
 abbrev closing : ℕ → TrafParts → List TrafPart → Result Traf FragFault
 closing place s ps =
     required (fault_at place NoTfhd) (chosen s.tfhd (heads ps)) >>= λ tfhd.
-    Ok (record { place = place; tfhd = tfhd; runs = s.runs ++ runs ps; senc = s.senc ++ sencs ps; saiz = s.saiz ++ saizs ps; saio = s.saio ++ saios ps; sgpd = s.sgpd ++ sgpds ps; sbgp = s.sbgp ++ sbgps ps })
+    Ok (record { place = place; tfhd = tfhd; runs = s.runs ++ runs ps; senc = s.senc ++ spans_of (codes "senc") ps; saiz = s.saiz ++ spans_of (codes "saiz") ps; saio = s.saio ++ spans_of (codes "saio") ps; sgpd = s.sgpd ++ spans_of (codes "sgpd") ps; sbgp = s.sbgp ++ spans_of (codes "sbgp") ps })
 
 abbrev pub traf_reader : ℕ → Reader FragFault TrafPart Bool TrafParts Traf
 traf_reader place = record { header = header_fault; read = part_at; learn = head_seen; know = λ s. is_some s.tfhd; add = added; finish = closing place }
 
-first_known : (o : Option Tfhd) (h : Tfhd) → is_some (first_or o h) ≡ true
-first_known None h = refl
-first_known (Some g) h = refl
-
-first_chosen : (o : Option Tfhd) (h : Tfhd) (hs : List Tfhd) → chosen o (h ∷ hs) ≡ chosen (first_or o h) hs
-first_chosen None h hs = refl
-first_chosen (Some g) h hs = refl
-
 knows : (s : TrafParts) (p : TrafPart) → is_some (added s p).tfhd ≡ head_seen (is_some s.tfhd) p
-knows s (part.Head h) = first_known s.tfhd h
+knows s (part.Head h) = known_more s.tfhd h
 knows s (part.Run r) = refl
-knows s (part.Senc x) = refl
-knows s (part.Saiz x) = refl
-knows s (part.Saio x) = refl
-knows s (part.Sgpd x) = refl
-knows s (part.Sbgp x) = refl
+knows s (part.Placed k x) = refl
 knows s part.Other = refl
 
 adds : (place : ℕ) (s : TrafParts) (p : TrafPart) (ps : List TrafPart) → closing place s (p ∷ ps) ≡ closing place (added s p) ps
-adds place s (part.Head h) ps = rw (first_chosen s.tfhd h (heads ps)) refl
+adds place s (part.Head h) ps = rw (chosen_more s.tfhd h (heads ps)) refl
 adds place s (part.Run r) ps = simp append_assoc
-adds place s (part.Senc x) ps = simp append_assoc
-adds place s (part.Saiz x) ps = simp append_assoc
-adds place s (part.Saio x) ps = simp append_assoc
-adds place s (part.Sgpd x) ps = simp append_assoc
-adds place s (part.Sbgp x) ps = simp append_assoc
+adds place s (part.Placed k x) ps = simp append_assoc
 adds place s part.Other ps = refl
 
 pub traf_gathers : (place : ℕ) → Gathers (traf_reader place)
@@ -66,17 +45,13 @@ pub traf_starts : (b : Found) → left (traf_reader b.place) nothing (inside b) 
 unfolding left traf_at
 traf_starts b = refl
 
-none_more : (o : Option Tfhd) → chosen o [] ≡ o
-none_more None = refl
-none_more (Some h) = refl
-
 abbrev pub whole_traf : ℕ → TrafParts → Result Traf FragFault
 whole_traf place s =
     required (fault_at place NoTfhd) s.tfhd >>= λ tfhd.
     Ok (record { place = place; tfhd = tfhd; runs = s.runs; senc = s.senc; saiz = s.saiz; saio = s.saio; sgpd = s.sgpd; sbgp = s.sbgp })
 
 pub traf_ends : (place : ℕ) (s : TrafParts) (w : Walked) (total : Result Traf FragFault) → w ≡ record { boxes = []; fault = None } → left (traf_reader place) s w ≡ total → total ≡ whole_traf place s
-traf_ends place s w total e so_far = ends (traf_reader place) s w total e so_far ∙ rw (none_more s.tfhd) (simp append-nil)
+traf_ends place s w total e so_far = ends (traf_reader place) s w total e so_far ∙ rw (chosen_none s.tfhd) (simp append-nil)
 
 -- ---- a movie fragment
 

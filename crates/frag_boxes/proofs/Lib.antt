@@ -5,3 +5,4 @@ pub mod Taking
 pub mod Few
 pub mod Distinct
 pub mod Tracks
+pub mod Inside

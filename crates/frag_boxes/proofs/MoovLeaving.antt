@@ -1,10 +1,10 @@
 -- A movie and its tracks are gathered box after box.
-use Rattle.std.proofs.Common.{◌≡◌, ℕ, true, List, [], ◌∷◌, ◌++◌, map, length, arith, Option, Some, None, Result, Ok, refl, sym, ◌∙◌, append_assoc}
+use Rattle.std.proofs.Common.{◌≡◌, ℕ, List, [], ◌∷◌, ◌++◌, map, Option, Some, None, Result, Ok, refl, ◌∙◌, append_assoc}
 use Rattle.std.specs.Prelude.{is_some}
 use Rattle.std.proofs.lemmas.List.{append-nil}
 use Rattle.iso_boxes.specs.Walk.{Found, Walked, inside}
-use Rattle.iso_boxes.specs.Children.{◌>>=◌, required, first}
-use Rattle.iso_boxes.proofs.Gathering.{Reader, Gathers, left, ends}
+use Rattle.iso_boxes.specs.Children.{◌>>=◌, required}
+use Rattle.iso_boxes.proofs.Gathering.{Reader, Gathers, left, ends, chosen, chosen_more, chosen_none, known_more}
 use Rattle.frag_boxes.specs.declared.fault.FragKind.TheVariants.{NoTrackId}
 use Rattle.frag_boxes.specs.declared.fault.FragFault.{FragFault}
 use Rattle.frag_boxes.specs.declared.records.MovieTrack.{MovieTrack}
@@ -18,24 +18,8 @@ use Rattle.frag_boxes.specs.declared.moov.MoovParts.{MoovParts}
 use Rattle.frag_boxes.specs.Moof.{fault_at, header_fault}
 use Rattle.frag_boxes.specs.Moov.{Seen, saw, ids, tables, track, trak_part_at, trak_at, moov_part_at, with_track, tracks_of, trexes_of, with_trex, mvex_part_at, mvex_at, moov_psshs, moov_at}
 use Rattle.frag_boxes.specs.Table.{or_none, somes}
-use Rattle.frag_boxes.specs.Gathering.{first_or, trak_added, moov_added, trex_added, whole_moov}
+use Rattle.frag_boxes.specs.Gathering.{trak_added, moov_added, trex_added, whole_moov}
 use Rattle.frag_boxes.specs.declared.records.TrackTrex.{TrackTrex}
-
-abbrev pub chosen : {A : Type 0} → Option A → List A → Option A
-chosen None xs = first xs
-chosen (Some x) xs = Some x
-
-pub chosen_more : {A : Type 0} (o : Option A) (x : A) (xs : List A) → chosen o (x ∷ xs) ≡ chosen (first_or o x) xs
-chosen_more None x xs = refl
-chosen_more (Some y) x xs = refl
-
-pub chosen_none : {A : Type 0} (o : Option A) → chosen o [] ≡ o
-chosen_none None = refl
-chosen_none (Some x) = refl
-
-pub known_more : {A : Type 0} (o : Option A) (x : A) → is_some (first_or o x) ≡ true
-known_more None x = refl
-known_more (Some y) x = refl
 
 abbrev pub seen_of : TrakParts → Seen
 seen_of s = record { tkhd = is_some s.id; mdia = is_some s.table }
@@ -122,12 +106,3 @@ mvex_starts b = refl
 
 pub mvex_ends : (s : List TrackTrex) (w : Walked) (total : Result (List TrackTrex) FragFault) → w ≡ record { boxes = []; fault = None } → left mvex_reader s w ≡ total → total ≡ Ok s
 mvex_ends s w total e so_far = ends mvex_reader s w total e so_far ∙ simp append-nil
-
--- ---- a trex for each track
-
-pub mapped_more : {A B : Type 0} (f : A → B) (out : List B) (x : A) (old rest : List A) (total : List B) → old ≡ x ∷ rest → out ++ map f old ≡ total → (out ++ f x ∷ []) ++ map f rest ≡ total
-mapped_more f out x old rest total e so_far = append_assoc out (f x ∷ []) (map f rest) ∙ (rw e at so_far)
-
-pub mapped_end : {A B : Type 0} (f : A → B) (out : List B) (old : List A) (total : List B) → length old ≡ 0 → out ++ map f old ≡ total → out ≡ total
-mapped_end f out [] total e so_far = sym (append-nil out) ∙ so_far
-mapped_end f out (x ∷ xs) total e so_far = absurd (omega arith)

@@ -6,7 +6,7 @@ use Rattle.std.proofs.lemmas.List.{append-nil}
 use Rattle.iso_boxes.specs.declared.walk.BoxFault.{BoxFault}
 use Rattle.iso_boxes.specs.Walk.{Found, Walked, inside, before}
 use Rattle.iso_boxes.specs.Children.{◌>>=◌, each_knowing}
-use Rattle.iso_boxes.proofs.Gathering.{Reader, Gathers, left, ends}
+use Rattle.iso_boxes.proofs.Gathering.{Reader, Gathers, left, ends, chosen, chosen_more, chosen_none, known_more}
 use Rattle.frag_boxes.specs.declared.fault.FragKind.TheVariants.{Short}
 use Rattle.frag_boxes.specs.declared.fault.FragFault.{FragFault}
 use Rattle.frag_boxes.specs.declared.records.Span.{Span}
@@ -18,7 +18,6 @@ use Rattle.frag_boxes.specs.declared.table.StblParts.{StblParts}
 use Rattle.frag_boxes.specs.Moof.{GivesBox, fault_at, header_fault}
 use Rattle.frag_boxes.specs.Table.{behind, sinf_part, somes, entry_from, sinfs_at, protected_at, entry_at, too_few, enough, entries_at, entries_in, stbl_part_at, stsd_seen, entries_of, groups, or_nothing, stbl_at}
 use Rattle.frag_boxes.specs.Gathering.{span_added, stbl_added}
-use Rattle.frag_boxes.proofs.MoovLeaving.{chosen, chosen_more, chosen_none, known_more}
 
 abbrev stbl_closing : StblParts → List StblPart → Result Table FragFault
 stbl_closing s ps = Ok (record { entries = or_nothing (chosen s.entries (entries_of ps)); groups = s.groups ++ groups ps })

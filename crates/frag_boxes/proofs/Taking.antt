@@ -1,15 +1,12 @@
--- What a walk and a reader take of the bytes, so that what was read has no more parts than there are bytes.
-use Rattle.std.proofs.Common.{◌≡◌, ℕ, zero, suc, ◌+◌, ◌≤◌, Bool, true, false, cond, List, [], ◌∷◌, length, take, drop, Option, Some, None, Result, Ok, Err, refl, ap, subst, arith}
-use Rattle.std.specs.Prelude.{IfSome, nat_lt}
-use Rattle.std.specs.Int.{Width, byte_len}
+-- A walk takes its boxes of the bytes, so what is read of them has no more parts than there are bytes.
+use Rattle.std.proofs.Common.{◌≡◌, ℕ, zero, suc, ◌+◌, ◌≤◌, Bool, true, false, cond, List, [], ◌∷◌, length, take, drop, Option, Some, None, Result, Ok, Err, refl, subst, arith}
+use Rattle.std.specs.Prelude.{IfSome}
 use Rattle.std.proofs.lemmas.Bool.{ltb-false}
 use Rattle.std.proofs.lemmas.List.{length-drop, length-take-le}
 use Rattle.iso_boxes.specs.declared.walk.BoxFault.{BoxFault}
 use Rattle.iso_boxes.specs.Walk.{Found, Left, Walked, lengths, cut, first_box, boxes_given, next_box, left_behind, after_next, continued, walk_of, boxes_left, walk}
 use Rattle.iso_boxes.specs.Children.{◌>>=◌, each_knowing, ended, all_knowing}
-use Rattle.iso_boxes.specs.Reading.{Reading, goes_on, yield, whole, number, number24, signed, given}
 use Rattle.iso_boxes.proofs.Walking.{not_err, lengths_min}
-use Rattle.iso_boxes.proofs.Repeating.{Takes}
 use Rattle.frag_boxes.specs.Counts.{count_of}
 
 -- what a first step gave, and what became of it
@@ -17,9 +14,10 @@ pub then_ok : {E A B : Type 0} (r : Result A E) (f : A → Result B E) (y : B) �
 then_ok (Ok x) f y h = (x, refl, h)
 then_ok (Err e) f y h = absurd cc
 
-pub read_ok : {E A B : Type 0} (r : Result (A × List ℕ) E) (f : A → Reading E B) (y : B × List ℕ) → goes_on r f ≡ Ok y → (x : A × List ℕ) × (r ≡ Ok x) × (f x.0 x.1 ≡ Ok y)
-read_ok (Ok x) f y h = (x, refl, h)
-read_ok (Err e) f y h = absurd cc
+-- where the answer is the other one
+pub not_else : {A E : Type 0} (c : Bool) (r : Result A E) (e : E) (y : A) → cond c r (Err e) ≡ Ok y → r ≡ Ok y
+not_else true r e y h = h
+not_else false r e y h = absurd cc
 
 -- ---- the boxes of a walk
 
@@ -97,44 +95,6 @@ all_small {A = A} header size read learn small known w xs h =
     let e : p.0 ≡ xs = cc in
     subst (λ (ys : List A). total size ys ≤ count_of body_len w.boxes) e (each_small size read learn small known w.boxes p.0 p.1)
 
--- ---- what is read of fields
-
-whole_takes : {E A : Type 0} (c : Bool) (n k : ℕ) (v : A) (e : E) (bytes : List ℕ) (x : A) (after : List ℕ) → k ≤ n → (c ≡ false → n ≤ length bytes) → whole e (cond c None (Some (v, drop n bytes))) ≡ Ok (x, after) → length after + k ≤ length bytes
-whole_takes true n k v e bytes x after low le h = absurd cc
-whole_takes {A = A} false n k v e bytes x after low le h =
-    let p : (v, drop n bytes) ≡ (x, after) = cc in
-    let q = ap (λ (z : A × List ℕ). length z.1) p in
-    let high = le refl in
-    omega (arith, length-drop n bytes, q, high, low)
-
-pub number_takes : {E : Type 0} (e : E) (w : Width) (k : ℕ) → k ≤ byte_len w → Takes k (number e w)
-number_takes e w k low bytes x after h = whole_takes (nat_lt (length bytes) (byte_len w)) (byte_len w) k _ e bytes x after low (ltb-false (length bytes) (byte_len w)) h
-
-pub number24_takes : {E : Type 0} (e : E) → Takes 0 (number24 e)
-number24_takes e bytes x after h = whole_takes (nat_lt (length bytes) 3) 3 0 _ e bytes x after (omega arith) (ltb-false (length bytes) 3) h
-
-pub signed_takes : {E : Type 0} (e : E) → Takes 1 (signed e)
-signed_takes e bytes x after h = whole_takes (nat_lt (length bytes) 4) 4 1 _ e bytes x after (omega arith) (ltb-false (length bytes) 4) h
-
 abbrev pub some_size : {A : Type 0} → Option A → ℕ
 some_size None = 0
 some_size (Some x) = 1
-
-pub yielded_size : {E A : Type 0} (size : A → ℕ) (v x : A) (bytes after : List ℕ) → yield {E = E} v bytes ≡ Ok (x, after) → (size v ≡ size x) × (length bytes ≡ length after)
-yielded_size {A = A} size v x bytes after h =
-    let p : (v, bytes) ≡ (x, after) = cc in
-    (ap (λ (z : A × List ℕ). size z.0) p, ap (λ (z : A × List ℕ). length z.1) p)
-
--- one where a test holds
-abbrev pub one_if : Bool → ℕ
-one_if c = cond c 1 0
-
-pub given_takes : {E A : Type 0} (c : Bool) (r : Reading E A) → Takes 1 r → Takes (one_if c) (given c r)
-given_takes true r takes bytes o after h =
-    let p = read_ok (r bytes) _ (o, after) h in
-    let t = takes bytes p.0.0 p.0.1 p.1 in
-    let q = yielded_size some_size (Some p.0.0) o p.0.1 after p.2 in
-    omega (arith, t, q)
-given_takes false r takes bytes o after h =
-    let q = yielded_size some_size None o bytes after h in
-    omega (arith, q)

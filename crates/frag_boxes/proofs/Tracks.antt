@@ -3,6 +3,7 @@ use Rattle.std.proofs.Common.{◌≡◌, ◌⊎◌, inl, inr, ℕ, ◌<◌, ◌�
 use Rattle.std.specs.Prelude.{IfOk, nat_lt, ◌==◌, ◌||◌}
 use Rattle.std.proofs.lemmas.Bool.{ltb-true}
 use Rattle.std.proofs.lemmas.List.{append-nil, length-map}
+use Rattle.eme_types.specs.declared.limits.TheConstants.{MAX_TRACKS}
 use Rattle.eme_types.specs.Fed.{is_among, are_distinct}
 use Rattle.iso_boxes.specs.Walk.{Found, inside}
 use Rattle.iso_boxes.specs.Children.{◌>>=◌, each_knowing, ended, all_knowing, required, first, placed}
@@ -99,7 +100,7 @@ trak_new tracks b t h =
 -- ---- the tracks of a movie
 
 record Good (tracks : List MovieTrack) : Type 0 where
-  few : length tracks ≤ 8
+  few : length tracks ≤ MAX_TRACKS
   distinct : are_distinct (map track_id tracks) ≡ true
 
 among_ids : (id : ℕ) (tracks : List MovieTrack) → among id tracks ≡ is_among (map track_id tracks) id
@@ -110,13 +111,13 @@ map_end : (tracks : List MovieTrack) (t : MovieTrack) → map track_id (tracks +
 map_end [] t = refl
 map_end (u ∷ tracks) t = ap (λ (xs : List ℕ). u.id ∷ xs) (map_end tracks t)
 
-more_good : (tracks : List MovieTrack) (t : MovieTrack) → length tracks < 8 → among t.id tracks ≡ false → Good tracks → Good (tracks ++ t ∷ [])
+more_good : (tracks : List MovieTrack) (t : MovieTrack) → length tracks < MAX_TRACKS → among t.id tracks ≡ false → Good tracks → Good (tracks ++ t ∷ [])
 more_good tracks t few new g = record {
   few = omega (arith, few, length-append tracks (t ∷ []));
   distinct = subst (λ (xs : List ℕ). are_distinct xs ≡ true) (sym (map_end tracks t)) (distinct_end (map track_id tracks) t.id g.distinct (sym (among_ids t.id tracks) ∙ new));
 }
 
-trak_good : (c : Bool) (tracks : List MovieTrack) (b : Found) (x : MoovPart) → (c ≡ true → length tracks < 8)
+trak_good : (c : Bool) (tracks : List MovieTrack) (b : Found) (x : MoovPart) → (c ≡ true → length tracks < MAX_TRACKS)
     → cond c (trak_at tracks b >>= λ t. Ok (moov_part.Track t)) (Err (fault_at b.place TooManyTracks)) ≡ Ok x → Good tracks → Good (with_track tracks x)
 trak_good true tracks b x few h g =
     let p = then_ok (trak_at tracks b) (λ t. Ok (moov_part.Track t)) x h in
@@ -125,7 +126,7 @@ trak_good true tracks b x few h g =
 trak_good false tracks b x few h g = absurd cc
 
 part_good : (k : MoovBox) (tracks : List MovieTrack) (b : Found) (x : MoovPart) → moov_part_as k tracks b ≡ Ok x → Good tracks → Good (with_track tracks x)
-part_good moov.Trak tracks b x h g = trak_good (nat_lt (length tracks) 8) tracks b x (ltb-true (length tracks) 8) h g
+part_good moov.Trak tracks b x h g = trak_good (nat_lt (length tracks) MAX_TRACKS) tracks b x (ltb-true (length tracks) MAX_TRACKS) h g
 part_good moov.Mvex tracks b x h g =
     let p = then_ok (mvex_at b) (λ trexes. Ok (moov_part.Defaults trexes)) x h in
     let is : moov_part.Defaults p.0 ≡ x = cc in

@@ -1,6 +1,7 @@
 -- The fields of the boxes of a movie and of its fragments (ISO/IEC 14496-12). What stands behind them in a box is not looked at.
-use Rattle.std.specs.Prelude.{◌≡◌, ◌⊎◌, ◌==◌, ◌||◌, if◌then◌else◌, ℕ, ℤ, Bool, List, [], Result, Ok, Err}
+use Rattle.std.specs.Prelude.{◌≡◌, ◌==◌, ◌||◌, if◌then◌else◌, ℕ, ℤ, Bool, List, [], Result}
 use Rattle.std.specs.Int.{w8, w16, w32, w64}
+use Rattle.eme_types.specs.FirstFault as first_fault
 use Rattle.iso_boxes.specs.Reading.{Reading, ◌>>=◌, yield, number, number24, signed, given, repeated, has, some_bytes, broken}
 use Rattle.frag_boxes.specs.declared.fault.FragKind.{FragKind}
 use Rattle.frag_boxes.specs.declared.fault.FragKind.TheVariants.{Short, AudioVersion, Progressive, OutOfMemory}
@@ -11,21 +12,25 @@ use Rattle.frag_boxes.specs.declared.records.TrackTrex.{TrackTrex}
 
 -- what a reader returned, seen by view, is what the definition reads, unless memory ran out
 abbrev pub Gives : {X Y : Type 0} → (X → Y) → Result X FragKind → Result Y FragKind → Type 0
-Gives view (Ok x) read = read ≡ Ok (view x)
-Gives view (Err e) read = (e ≡ OutOfMemory) ⊎ (read ≡ Err e)
+Gives view result read = first_fault.Gives (λ e. e ≡ OutOfMemory) view result read
 
+-- a number of 8 bits
 abbrev pub u8 : Reading FragKind ℕ
 u8 = number Short w8
 
+-- a number of 24 bits
 abbrev pub u24 : Reading FragKind ℕ
 u24 = number24 Short
 
+-- a number of 32 bits
 abbrev pub u32 : Reading FragKind ℕ
 u32 = number Short w32
 
+-- a number of 64 bits
 abbrev pub u64 : Reading FragKind ℕ
 u64 = number Short w64
 
+-- a signed number of 32 bits
 abbrev pub i32 : Reading FragKind ℤ
 i32 = signed Short
 
@@ -55,6 +60,7 @@ item flags = do
 abbrev pub has_items : ℕ → Bool
 has_items flags = has 0x100 flags || has 0x200 flags || has 0x400 flags || has 0x800 flags
 
+-- one item for each sample, where a flag gives it a field
 abbrev pub items : ℕ → ℕ → Reading FragKind (List RunItem)
 items count flags = if has_items flags then repeated count (item flags) else yield []
 

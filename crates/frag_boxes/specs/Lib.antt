@@ -5,3 +5,4 @@ pub mod Table
 pub mod Moov
 pub mod Counts
 pub mod Tracks
+pub mod Places

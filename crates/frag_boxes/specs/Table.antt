@@ -17,6 +17,7 @@ use Rattle.frag_boxes.specs.declared.table.StblPart.TheVariants as part
 use Rattle.frag_boxes.specs.Fields.{stsd_fields, stsz_fields, audio_version}
 use Rattle.frag_boxes.specs.Moof.{fault_at, header_fault, span}
 
+-- a box is of this type
 abbrev pub is : List ℕ → Found → Bool
 is kind b = bytes_eq b.kind kind
 
@@ -29,6 +30,7 @@ abbrev pub GivesBoxes : Result Left FragFault → Result Walked FragFault → Ty
 GivesBoxes (Ok left) walked = walked ≡ Ok (boxes_left left)
 GivesBoxes (Err e) walked = walked ≡ Err e
 
+-- those that are there
 abbrev pub somes : {A : Type 0} → List (Option A) → List A
 somes [] = []
 somes (None ∷ xs) = somes xs
@@ -44,6 +46,7 @@ entry_box kind =
     else if bytes_eq (take 3 kind) (codes "enc") then entry.OtherEnc
     else entry.Clear
 
+-- where a sinf stands; other boxes are passed over
 unfoldable pub sinf_part : Found → Option Span
 sinf_part b = if is (codes "sinf") b then Some (span b) else None
 
@@ -51,6 +54,7 @@ sinf_part b = if is (codes "sinf") b then Some (span b) else None
 abbrev pub entry_from : ℕ → List Span → Result SampleEntry FragFault
 entry_from place sinfs = if length sinfs == 0 then Err (fault_at place NoSinf) else Ok (record { place = place; sinfs = sinfs })
 
+-- the sinf boxes among the boxes of an entry
 abbrev pub sinfs_at : ℕ → Walked → Result SampleEntry FragFault
 sinfs_at place w = all_read header_fault (λ b. Ok (sinf_part b)) w >>= λ parts. entry_from place (somes parts)
 
@@ -58,12 +62,14 @@ sinfs_at place w = all_read header_fault (λ b. Ok (sinf_part b)) w >>= λ parts
 unfoldable pub protected_at : ℕ → Found → Result SampleEntry FragFault
 protected_at n b = behind n b >>= sinfs_at b.place
 
+-- an entry by its type; an audio entry has version 0
 abbrev pub entry_as : EntryBox → Found → Result SampleEntry FragFault
 entry_as entry.Encv b = protected_at 78 b
 entry_as entry.Enca b = placed (fault_at b.place) (audio_version b.body) >>= λ version. protected_at 28 b
 entry_as entry.OtherEnc b = Err (fault_at b.place EntryType)
 entry_as entry.Clear b = Ok (record { place = b.place; sinfs = [] })
 
+-- an entry
 abbrev pub entry_at : Found → Result SampleEntry FragFault
 entry_at b = entry_as (entry_box b.kind) b
 
@@ -72,6 +78,7 @@ abbrev pub too_few : ℕ → Option BoxFault → FragFault
 too_few place None = fault_at place Short
 too_few place (Some f) = header_fault f
 
+-- there are as many boxes as were counted
 abbrev pub enough : ℕ → ℕ → Walked → Result (Unit {0}) FragFault
 enough place count w = if nat_lt (length w.boxes) count then Err (too_few place w.fault) else Ok tt
 
@@ -82,14 +89,17 @@ entries_in place count w = do
   end ← enough place count w
   Ok entries
 
+-- the counted entries, behind 8 bytes of fields
 unfoldable pub entries_at : ℕ → Found → Result (List SampleEntry) FragFault
 entries_at count b = behind 8 b >>= entries_in b.place count
 
+-- the entries of an stsd
 unfoldable pub stsd_at : Found → Result (List SampleEntry) FragFault
 stsd_at b = placed (fault_at b.place) (stsd_fields b.body) >>= λ count. entries_at count b
 
 -- ---- the table
 
+-- the types of boxes that are read here
 unfoldable pub stbl_box : List ℕ → StblBox
 stbl_box kind =
     if bytes_eq kind (codes "stsd") then stbl.Stsd
@@ -104,6 +114,7 @@ stbl_part_as stbl.Stsz seen b = placed (fault_at b.place) (stsz_fields b.body) >
 stbl_part_as stbl.Sgpd seen b = Ok (part.Group (span b))
 stbl_part_as stbl.Other seen b = Ok part.Other
 
+-- what is read of one box by its type
 abbrev pub stbl_part_at : Bool → Found → Result StblPart FragFault
 stbl_part_at seen b = stbl_part_as (stbl_box b.kind) seen b
 
@@ -112,34 +123,42 @@ abbrev pub stsd_seen : Bool → StblPart → Bool
 stsd_seen seen (part.Entries entries) = true
 stsd_seen seen _ = seen
 
+-- the entries of each stsd that was read
 abbrev pub entries_of : List StblPart → List (List SampleEntry)
 entries_of [] = []
 entries_of (part.Entries entries ∷ ps) = entries ∷ entries_of ps
 entries_of (_ ∷ ps) = entries_of ps
 
+-- where its sgpd stand
 abbrev pub groups : List StblPart → List Span
 groups [] = []
 groups (part.Group x ∷ ps) = x ∷ groups ps
 groups (_ ∷ ps) = groups ps
 
+-- no item where there is no list
 abbrev pub or_nothing : {A : Type 0} → Option (List A) → List A
 or_nothing None = []
 or_nothing (Some xs) = xs
 
+-- a sample table
 unfoldable pub stbl_at : Found → Result Table FragFault
 stbl_at b = do
   parts ← all_knowing header_fault stbl_part_at stsd_seen false (inside b)
   Ok (record { entries = or_nothing (first (entries_of parts)); groups = groups parts })
 
+-- a table without entries and groups
 abbrev pub no_table : Table
 no_table = record { entries = []; groups = [] }
 
+-- an empty table where there is none
 abbrev pub or_none : Option Table → Table
 or_none None = no_table
 or_none (Some table) = table
 
+-- the table in the first stbl of a minf
 unfoldable pub minf_at : Found → Result Table FragFault
 minf_at b = first_read header_fault (is (codes "stbl")) stbl_at (inside b) >>= λ table. Ok (or_none table)
 
+-- the table in the first minf of an mdia
 unfoldable pub mdia_at : Found → Result Table FragFault
 mdia_at b = first_read header_fault (is (codes "minf")) minf_at (inside b) >>= λ table. Ok (or_none table)

@@ -7,11 +7,6 @@ ghost use Rattle.frag_boxes.specs.Moof.{traf_box, moof_box};
 pub enum TrafBox {
     Tfhd,
     Trun,
-    Senc,
-    Saiz,
-    Saio,
-    Sgpd,
-    Sbgp,
     Other,
 }
 
@@ -31,16 +26,6 @@ pub fn traf_box(kind: [u8; 4]) -> TrafBox
         TrafBox::Tfhd
     } else if kind == *b"trun" {
         TrafBox::Trun
-    } else if kind == *b"senc" {
-        TrafBox::Senc
-    } else if kind == *b"saiz" {
-        TrafBox::Saiz
-    } else if kind == *b"saio" {
-        TrafBox::Saio
-    } else if kind == *b"sgpd" {
-        TrafBox::Sgpd
-    } else if kind == *b"sbgp" {
-        TrafBox::Sbgp
     } else {
         TrafBox::Other
     }

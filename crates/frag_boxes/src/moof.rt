@@ -1,10 +1,11 @@
 // A movie fragment.
-ghost use Rattle.std.specs.Prelude.{◌≡◌, ◌+◌, ◌<◌, ◌≤◌, ◌^◌, length, [], OnOk, IfOk};
+ghost use Rattle.std.specs.Prelude.{◌≡◌, ◌++◌, ◌+◌, ◌<◌, ◌≤◌, ◌^◌, length, [], OnOk, IfOk};
 ghost use Rattle.iso_boxes.specs.Walk.{found};
 ghost use Rattle.iso_boxes.specs.Children.{placed};
 ghost use Rattle.frag_boxes.specs.declared.fault.FragKind.TheVariants.{OutOfMemory};
 ghost use Rattle.frag_boxes.specs.Fields.{tfhd_fields, trun_fields};
-ghost use Rattle.frag_boxes.specs.Moof.{GivesBox, fault_at, span, part_at, traf_at, moof_part_at, moof_at};
+ghost use Rattle.frag_boxes.specs.Moof.{GivesBox, fault_at, span, part_at, span_if, traf_at, moof_part_at, moof_at};
+ghost use Rattle.frag_boxes.specs.Places.{MoofLies};
 ghost use Rattle.frag_boxes.specs.Counts.{moof_items};
 ghost use Rattle.frag_boxes.specs.Gathering.{nothing, added, moof_added};
 
@@ -56,11 +57,8 @@ fn trun_of(alloc: Global, at: &BoxRef<'_>) -> Result<Trun, FragFault>
 pub enum TrafPart {
     Head(Tfhd),
     Run(Trun),
-    Senc(Span),
-    Saiz(Span),
-    Saio(Span),
-    Sgpd(Span),
-    Sbgp(Span),
+    /// A box of another type, and where it stands.
+    Placed([u8; 4], Span),
     Other,
 }
 
@@ -84,13 +82,17 @@ fn read_part(alloc: Global, seen: bool, at: &BoxRef<'_>) -> Result<TrafPart, Fra
             }
         }
         TrafBox::Trun => Ok(TrafPart::Run(trun_of(alloc, at)?)),
-        TrafBox::Senc => Ok(TrafPart::Senc(span_of(at))),
-        TrafBox::Saiz => Ok(TrafPart::Saiz(span_of(at))),
-        TrafBox::Saio => Ok(TrafPart::Saio(span_of(at))),
-        TrafBox::Sgpd => Ok(TrafPart::Sgpd(span_of(at))),
-        TrafBox::Sbgp => Ok(TrafPart::Sbgp(span_of(at))),
-        TrafBox::Other => Ok(TrafPart::Other),
+        TrafBox::Other => Ok(TrafPart::Placed(at.kind, span_of(at))),
     }
+}
+
+fn push_if(spans: &mut Spans, kind: [u8; 4], found: [u8; 4], span: Span) -> Result<(), AllocError>
+    ensures { OnOk result (spans.new ≡ spans.old ++ span_if kind found span) }
+{
+    if found == kind {
+        spans.push(span)?;
+    }
+    Ok(())
 }
 
 /// What was gathered of a track fragment.
@@ -130,11 +132,13 @@ impl TrafParts {
                 }
             }
             TrafPart::Run(run) => self.runs.push(run)?,
-            TrafPart::Senc(span) => self.senc.push(span)?,
-            TrafPart::Saiz(span) => self.saiz.push(span)?,
-            TrafPart::Saio(span) => self.saio.push(span)?,
-            TrafPart::Sgpd(span) => self.sgpd.push(span)?,
-            TrafPart::Sbgp(span) => self.sbgp.push(span)?,
+            TrafPart::Placed(kind, span) => {
+                push_if(&mut self.senc, *b"senc", kind, span)?;
+                push_if(&mut self.saiz, *b"saiz", kind, span)?;
+                push_if(&mut self.saio, *b"saio", kind, span)?;
+                push_if(&mut self.sgpd, *b"sgpd", kind, span)?;
+                push_if(&mut self.sbgp, *b"sbgp", kind, span)?;
+            }
             TrafPart::Other => {}
         }
         Ok(())
@@ -227,13 +231,16 @@ fn moof_of(alloc: Global, at: &BoxRef<'_>) -> Result<Moof, FragFault>
 
 /// Reads a movie fragment, whose type is not looked at. Boxes that no record names are passed over, and so is what stands behind the
 /// fields of a box. The condition is that the place behind the box is a `u64`.
-#[tactic(auto, using(crate::proofs::Few::few_in_fragment))]
+#[tactic(auto, using(crate::proofs::Few::few_in_fragment, crate::proofs::Inside::fragment_lies))]
 pub fn read_moof(alloc: Global, at: &BoxRef<'_>) -> Result<Moof, FragFault>
     requires { at.now.body_place + length at.now.body.now < 2 ^ 64 }
     ensures exact { GivesBox result (moof_at (found at.now)) }
 
     // all its lists together
     ensures bounded { IfOk result (λ moof. moof_items moof ≤ length at.now.body.now) }
+
+    // its spans
+    ensures inside { IfOk result (MoofLies (found at.now)) }
 {
     moof_of(alloc, at)
 }

@@ -4,6 +4,7 @@ ghost use Rattle.iso_boxes.specs.Walk.{found};
 ghost use Rattle.frag_boxes.specs.Moof.{GivesBox};
 ghost use Rattle.frag_boxes.specs.Moov.{among, Seen, moov_box, trak_box, tkhd_at, trak_part_at, trak_at, moov_part_at, moov_at, mvex_part_at, mvex_at, trex_of, with_trex};
 ghost use Rattle.frag_boxes.specs.Tracks.{HasTracks};
+ghost use Rattle.frag_boxes.specs.Places.{MovieLies};
 ghost use Rattle.frag_boxes.specs.Counts.{movie_items};
 ghost use Rattle.frag_boxes.specs.Gathering.{trak_added, moov_added, trex_added, whole_moov};
 
@@ -12,7 +13,7 @@ use crate::moof::span_of;
 use crate::reading::{read_tkhd, read_trex};
 use crate::records::{Movie, MovieTrack, MovieTracks, Span, Spans, TrackTrex, TrackTrexes, Trex};
 use crate::table::{Table, mdia_of, table_or_none};
-use eme_types::Items;
+use eme_types::{Items, MAX_TRACKS};
 use iso_boxes::{BoxRef, Boxes};
 use std::alloc::{AllocError, Global};
 
@@ -245,7 +246,7 @@ fn read_moov_part(
 {
     match moov_box(at.kind) {
         MoovBox::Trak => {
-            if tracks.len() < 8 {
+            if tracks.len() < MAX_TRACKS {
                 Ok(MoovPart::Track(trak_of(alloc, tracks, at)?))
             } else {
                 Err(FragFault {
@@ -365,13 +366,16 @@ fn moov_of(alloc: Global, at: &BoxRef<'_>) -> Result<Movie, FragFault>
 
 /// Reads a movie, whose type is not looked at. Of several `tkhd`, `mdia`, `minf`, `stbl` or `stsd` in one box the first is read, and
 /// the others are passed over. The condition is that the place behind the box is a `u64`.
-#[tactic(auto, using(crate::proofs::Few::few_in_movie, crate::proofs::Tracks::tracks_in_movie))]
+#[tactic(auto, using(crate::proofs::Few::few_in_movie, crate::proofs::Inside::movie_lies, crate::proofs::Tracks::tracks_in_movie))]
 pub fn read_moov(alloc: Global, at: &BoxRef<'_>) -> Result<Movie, FragFault>
     requires { at.now.body_place + length at.now.body.now < 2 ^ 64 }
     ensures exact { GivesBox result (moov_at (found at.now)) }
 
     // all its lists together
     ensures bounded { IfOk result (λ movie. movie_items movie ≤ length at.now.body.now) }
+
+    // its spans
+    ensures inside { IfOk result (MovieLies (found at.now)) }
     ensures tracks { IfOk result (λ movie. HasTracks movie) }
 {
     moov_of(alloc, at)

@@ -1,5 +1,5 @@
--- Where no rule is broken, all was read before the first broken rule.
-use Rattle.std.proofs.Common.{◌≡◌, suc, length, List, [], ◌∷◌, Result, Ok, Err, refl, ap, ◌∙◌}
+-- Where no rule is broken, all was read before the first broken rule: what a reader of a file's fragments one by one stands on.
+use Rattle.std.proofs.Common.{◌≡◌, List, [], ◌∷◌, Result, Ok, Err, refl, ap, ◌∙◌}
 use Rattle.iso_boxes.specs.Walk.{Found}
 use Rattle.iso_boxes.specs.Children.{◌>>=◌, each_knowing, onward, read_before}
 
@@ -19,21 +19,3 @@ pub all_before : {E A K : Type 0} (read : K → Found → Result A E) (learn : K
 unfolding each_knowing read_before
 all_before read learn known [] xs eq = cc
 all_before read learn known (b ∷ bs) xs eq = step (read known b) (λ x. each_knowing read learn (learn known x) bs) (λ x. read_before read learn (learn known x) bs) xs (λ x ys e. all_before read learn (learn known x) bs ys e) eq
-
-abbrev pub AsMany : {E A : Type 0} → Result (List A) E → List Found → Type 0
-AsMany (Ok xs) bs = length xs ≡ length bs
-AsMany (Err e) bs = Unit {0}
-
-more_at : {E A : Type 0} (x : A) (rest : Result (List A) E) (b : Found) (bs : List Found) → AsMany rest bs → AsMany (rest >>= λ ys. Ok (x ∷ ys)) (b ∷ bs)
-more_at x (Err e) b bs h = tt
-more_at x (Ok ys) b bs h = ap suc h
-
-more : {E A : Type 0} (one : Result A E) (rest : A → Result (List A) E) (b : Found) (bs : List Found) → ((x : A) → AsMany (rest x) bs) → AsMany (one >>= λ x. (rest x >>= λ ys. Ok (x ∷ ys))) (b ∷ bs)
-more (Err e) rest b bs h = tt
-more (Ok x) rest b bs h = more_at x (rest x) b bs (h x)
-
--- there are as many parts as boxes
-pub as_many : {E A K : Type 0} (read : K → Found → Result A E) (learn : K → A → K) (known : K) (bs : List Found) → AsMany (each_knowing read learn known bs) bs
-unfolding each_knowing
-as_many read learn known [] = refl
-as_many read learn known (b ∷ bs) = more (read known b) (λ x. each_knowing read learn (learn known x) bs) b bs (λ x. as_many read learn (learn known x) bs)

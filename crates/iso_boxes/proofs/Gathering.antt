@@ -1,8 +1,9 @@
 -- A reader that goes over the boxes and gathers what it reads comes to what the definition says of all of them.
-use Rattle.std.proofs.Common.{◌≡◌, ◌⊎◌, inl, inr, List, [], ◌∷◌, Option, Some, None, Result, Ok, Err, refl, sym, ◌∙◌}
+use Rattle.std.proofs.Common.{◌≡◌, ◌⊎◌, inl, inr, true, List, [], ◌∷◌, Option, Some, None, Result, Ok, Err, refl, sym, ◌∙◌}
+use Rattle.std.specs.Prelude.{is_some}
 use Rattle.iso_boxes.specs.declared.walk.BoxFault.{BoxFault}
 use Rattle.iso_boxes.specs.Walk.{Found, Walked, before}
-use Rattle.iso_boxes.specs.Children.{◌>>=◌, each_knowing, ended, all_knowing}
+use Rattle.iso_boxes.specs.Children.{◌>>=◌, each_knowing, ended, all_knowing, first, first_or}
 
 -- read and learn are those of the definition; a state says what is known; add puts a part to it;
 -- finish says what it comes to where these parts follow
@@ -63,3 +64,22 @@ stops r laws memory s b old new total f e (inl m) so_far = inl m
 stops r laws memory s b old new total f e (inr h) so_far =
     let one : left r s old ≡ Err f = rw e (one_more r laws s b new ∙ rw h refl) in
     inr (sym so_far ∙ one)
+
+-- ---- of several the first
+
+-- what is first where these follow
+abbrev pub chosen : {A : Type 0} → Option A → List A → Option A
+chosen None xs = first xs
+chosen (Some x) xs = Some x
+
+pub chosen_more : {A : Type 0} (o : Option A) (x : A) (xs : List A) → chosen o (x ∷ xs) ≡ chosen (first_or o x) xs
+chosen_more None x xs = refl
+chosen_more (Some y) x xs = refl
+
+pub chosen_none : {A : Type 0} (o : Option A) → chosen o [] ≡ o
+chosen_none None = refl
+chosen_none (Some x) = refl
+
+pub known_more : {A : Type 0} (o : Option A) (x : A) → is_some (first_or o x) ≡ true
+known_more None x = refl
+known_more (Some y) x = refl

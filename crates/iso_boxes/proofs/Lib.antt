@@ -2,5 +2,6 @@ pub mod Walking
 pub mod Places
 pub mod WrittenAgain
 pub mod Repeating
+pub mod Bounds
 pub mod Gathering
 pub mod Front

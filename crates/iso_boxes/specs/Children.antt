@@ -1,12 +1,9 @@
 -- Boxes that are read in file order, each whole, up to the first broken rule.
 use Rattle.std.specs.Prelude.{ℕ, Bool, List, [], ◌∷◌, Option, Some, None, Result, Ok, Err, find}
+pub use Rattle.eme_types.specs.FirstFault.{◌>>=◌, required}
 use Rattle.iso_boxes.specs.declared.walk.BoxFault.{BoxFault}
+use Rattle.iso_boxes.specs.declared.walk.BoxFault.TheVariants.{Short, SizeTooSmall, PastEnd}
 use Rattle.iso_boxes.specs.Walk.{Found, Walked}
-
-infixl 10 ◌>>=◌
-abbrev pub ◌>>=◌ : {E A B : Type 0} → Result A E → (A → Result B E) → Result B E
-(Ok x) >>= f = f x
-(Err e) >>= f = Err e
 
 -- each of them in order, each in the knowledge of what those before it were
 unfoldable pub each_knowing : {E A K : Type 0} → (K → Found → Result A E) → (K → A → K) → K → List Found → Result (List A) E
@@ -16,9 +13,16 @@ each_knowing read learn known (b ∷ bs) = do
   xs ← each_knowing read learn (learn known x) bs
   Ok (x ∷ xs)
 
+-- a box is read, where there is one
 abbrev pub if_any : {E A : Type 0} → (Found → Result A E) → Option Found → Result (Option A) E
 if_any read None = Ok None
 if_any read (Some b) = read b >>= λ x. Ok (Some x)
+
+-- a broken header as a fault of its place, of one kind for each of the three rules
+abbrev pub broken_header : {E K : Type 0} → (ℕ → K → E) → K → K → K → BoxFault → E
+broken_header fault_at short small past (Short place) = fault_at place short
+broken_header fault_at short small past (SizeTooSmall place) = fault_at place small
+broken_header fault_at short small past (PastEnd place) = fault_at place past
 
 -- behind the boxes stands their end, or a broken header
 abbrev pub ended : {E : Type 0} → (BoxFault → E) → Option BoxFault → Result (Unit {0}) E
@@ -43,14 +47,15 @@ first_read header test read w = do
   end ← ended header w.fault
   Ok x
 
--- what there has to be
-abbrev pub required : {E A : Type 0} → E → Option A → Result A E
-required e None = Err e
-required e (Some x) = Ok x
-
+-- the first of a list, where it has one
 abbrev pub first : {A : Type 0} → List A → Option A
 first [] = None
 first (x ∷ xs) = Some x
+
+-- of several the first
+abbrev pub first_or : {A : Type 0} → Option A → A → Option A
+first_or None x = Some x
+first_or (Some y) x = Some y
 
 -- the body of a box read by its layout; a broken rule has its place in the box
 abbrev pub placed : {E K A : Type 0} → (K → E) → Result (A × List ℕ) K → Result A E
@@ -62,6 +67,7 @@ abbrev pub onward : {E A : Type 0} → Result A E → (A → List A) → List A
 onward (Ok x) rest = x ∷ rest x
 onward (Err e) rest = []
 
+-- the parts that are read whole, up to the first box that breaks a rule
 unfoldable pub read_before : {E A K : Type 0} → (K → Found → Result A E) → (K → A → K) → K → List Found → List A
 read_before read learn known [] = []
 read_before read learn known (b ∷ bs) = onward (read known b) (λ x. read_before read learn (learn known x) bs)

@@ -19,9 +19,11 @@ pub record Left : Type 0 where
   pub place : ℕ
   pub top : Bool
 
+-- the number in the first 4 bytes
 abbrev pub be32 : List ℕ → ℕ
 be32 bytes = from_be_bytes w32 (take 4 bytes)
 
+-- the number in the first 8 bytes
 abbrev pub be64 : List ℕ → ℕ
 be64 bytes = from_be_bytes w64 (take 8 bytes)
 
@@ -44,6 +46,7 @@ cut bytes place (Some l) =
       drop l.1 bytes,
     )
 
+-- the box at the front and the bytes behind it
 unfoldable pub first_box : List ℕ → ℕ → Bool → Result (Found × List ℕ) BoxFault
 first_box bytes place top = cut bytes place (lengths bytes top)
 
@@ -52,6 +55,7 @@ abbrev pub boxes_given : Result (Found × List ℕ) BoxFault → Result (Option 
 boxes_given (Ok x) = Ok (Some x.0)
 boxes_given (Err f) = Err f
 
+-- what the next call gives: none at the end of the bytes
 unfoldable pub next_box : Left → Result (Option Found) BoxFault
 next_box w = if length w.bytes == 0 then Ok None else boxes_given (first_box w.bytes w.place w.top)
 
@@ -60,6 +64,7 @@ abbrev pub left_behind : Left → Result (Found × List ℕ) BoxFault → Left
 left_behind w (Ok x) = record w { bytes = x.1; place = w.place + (length w.bytes - length x.1) }
 left_behind w (Err f) = w
 
+-- what the next call leaves
 unfoldable pub after_next : Left → Left
 after_next w = if length w.bytes == 0 then w else left_behind w (first_box w.bytes w.place w.top)
 
@@ -85,6 +90,7 @@ walk_of (suc n) w = continued (next_box w) (walk_of n (after_next w))
 unfoldable pub boxes_left : Left → Walked
 boxes_left w = walk_of (length w.bytes) w
 
+-- the boxes of bytes whose first has the place base
 unfoldable pub walk : List ℕ → ℕ → Bool → Walked
 walk bytes base top = boxes_left (record { bytes = bytes; place = base; top = top })
 

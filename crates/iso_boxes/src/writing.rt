@@ -5,6 +5,7 @@ ghost use Rattle.iso_boxes.specs.Writing.{number24_body, boxed};
 
 use eme_types::Bytes;
 use std::alloc::{AllocError, Global};
+use std::mem;
 
 /// Why nothing was written.
 #[derive(Clone, Copy, Debug, PartialEq, Eq)]
@@ -74,8 +75,21 @@ pub fn put_bytes(out: &mut Bytes, bytes: &[u8]) -> Result<(), AllocError>
     out.extend_from_slice(bytes)
 }
 
-/// Appends a box with a size of 32 bits (ISO/IEC 14496-12 section 4.2).
+// All of it or nothing: the room is taken first.
 #[tactic(auto, unfolding(crate::specs::Writing::boxed))]
+fn append_box(out: &mut Vec<u8>, size: u32, kind: [u8; 4], body: &[u8]) -> Result<(), AllocError>
+    requires { size ≡ 8 + length body.now }
+    ensures ok { OnOk result (out.new.items ≡ out.old.items ++ boxed kind body.now) }
+    ensures err { OnErr result (out.new.items ≡ out.old.items) }
+{
+    out.reserve(size as usize)?;
+    out.extend_from_slice(&size.to_be_bytes())?;
+    out.extend_from_slice(&kind)?;
+    out.extend_from_slice(body)?;
+    Ok(())
+}
+
+/// Appends a box with a size of 32 bits (ISO/IEC 14496-12 section 4.2).
 pub fn put_box(alloc: Global, out: &mut Bytes, kind: [u8; 4], body: &[u8]) -> Result<(), PutFault>
     ensures ok { OnOk result (out.new ≡ out.old ++ boxed kind body.now) }
     ensures too_long { IsErrOf result PutFault.TooLong ↔ (2 ^ 32 ≤ 8 + length body.now) }
@@ -85,10 +99,9 @@ pub fn put_box(alloc: Global, out: &mut Bytes, kind: [u8; 4], body: &[u8]) -> Re
         return Err(PutFault::TooLong);
     }
     let size = (8 + body.len()) as u32;
-    let mut whole = Vec::with_capacity(alloc, 8 + body.len())?;
-    whole.extend_from_slice(&size.to_be_bytes())?;
-    whole.extend_from_slice(&kind)?;
-    whole.extend_from_slice(body)?;
-    out.extend_from_slice(&whole)?;
+    let mut whole = mem::replace(out, Bytes::new(alloc)).into_vec();
+    let appended = append_box(&mut whole, size, kind, body);
+    *out = Bytes::from_vec(whole);
+    appended?;
     Ok(())
 }

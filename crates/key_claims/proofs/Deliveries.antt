@@ -1,18 +1,14 @@
 -- The slot of a place, and what readers of slots pass over.
-use Rattle.std.proofs.Common.{zero, suc, ◌≡◌, ℕ, ◌+◌, ◌<◌, Bool, true, false, eqb, not, List, [], ◌∷◌, length, take, drop, get_or, set, add-one, Option, Some, None, refl, ap, sym, ◌∙◌, arith, inl, inr, Result, Ok, Err}
+use Rattle.std.proofs.Common.{zero, suc, ◌≡◌, ℕ, ◌+◌, ◌<◌, Bool, true, false, eqb, not, List, [], ◌∷◌, length, take, get_or, set, add-one, Option, Some, None, refl, ap, sym, ◌∙◌, arith, Result, Ok, Err}
 use Rattle.std.specs.Prelude.{slice_get, ◌&&◌, ◌||◌, if◌then◌else◌, OnErr}
 use Rattle.std.specs.List.{filter, remove}
-use Rattle.std.proofs.lemmas.Bool.Decides.{eqb_tells}
+use Rattle.std.proofs.lemmas.Bool.{and_parts, eqb-true, eq-eqb}
 use Rattle.key_claims.specs.declared.slots.Generation.{Generation}
 use Rattle.key_claims.specs.declared.slots.Slot.{Slot}
 use Rattle.key_claims.specs.SlotsKept.{AllBehind, SlotsKept}
 use Rattle.key_claims.specs.TracksState.{ClaimState}
 use Rattle.key_claims.specs.Claims.{has_place, give_clear, clear_at, is_other}
 use Rattle.key_claims.specs.Slots.{claim_with, claim_in, slot_claim, add_some, claims_in, current_in, is_current, is_at, is_other_slot, NoneAt, IsSlotOf, with_clear}
-
-both : (a b : Bool) → (a && b) ≡ true → (a ≡ true) × (b ≡ true)
-both true b e = (refl, e)
-both false b e = absurd cc
 
 and_left : (a : Bool) → (a && true) ≡ false → a ≡ false
 and_left true e = absurd cc
@@ -28,7 +24,7 @@ skipped (Some g) s place cs e = go (eqb g.number s.generation) e where
 
 pub none_placed : (gs : List Generation) (ss : List Slot) (place : ℕ) → NoneAt gs ss place → has_place place (claims_in gs ss) ≡ false
 none_placed gs [] place none = refl
-none_placed gs (s ∷ ss) place none = skipped (slice_get gs s.entry) s place (claims_in gs ss) none.0 ∙ none_placed gs ss place none.1
+none_placed gs (s ∷ ss) place none = skipped (slice_get gs s.key_at) s place (claims_in gs ss) none.0 ∙ none_placed gs ss place none.1
 
 -- the slot that holds it
 pub record Found (o : Option Generation) (s : Slot) (place : ℕ) (cs : List ClaimState) : Type 0 where
@@ -37,14 +33,11 @@ pub record Found (o : Option Generation) (s : Slot) (place : ℕ) (cs : List Cla
   pub clear_ : clear_at place (add_some (claim_in o s) cs) ≡ s.clear
   pub given : (clear : List ℕ) → add_some (claim_in o (with_clear clear s)) cs ≡ give_clear place clear (add_some (claim_in o s) cs)
 
-same_number : (a b : ℕ) → eqb a b ≡ true → a ≡ b
-same_number a b e = elim (eqb_tells a b) [ inl p ↦ p.1 | inr p ↦ absurd (let no : false ≡ true = sym p.0 ∙ e in cc) ]
-
 found : (o : Option Generation) (s : Slot) (place : ℕ) (cs : List ClaimState) → (eqb s.place place && current_in o s.generation) ≡ true → Found o s place cs
-found None s place cs e = absurd (let no : false ≡ true = (both (eqb s.place place) false e).1 in cc)
+found None s place cs e = absurd (let no : false ≡ true = (and_parts (eqb s.place place) false e).1 in cc)
 found (Some g) s place cs e =
-    let k = both (eqb s.place place) (eqb g.number s.generation) e in
-    record { there = rw (k.1, k.0) refl; place_ = same_number s.place place k.0; clear_ = rw (k.1, k.0) refl; given = λ clear. rw (k.1, k.0) refl }
+    let k = and_parts (eqb s.place place) (eqb g.number s.generation) e in
+    record { there = rw (k.1, k.0) refl; place_ = eqb-true s.place place k.0; clear_ = rw (k.1, k.0) refl; given = λ clear. rw (k.1, k.0) refl }
 
 other : (o : Option Generation) (s : Slot) (place : ℕ) (cs : List ClaimState) → (eqb s.place place && current_in o s.generation) ≡ false → (clear : List ℕ) → give_clear place clear (add_some (claim_in o s) cs) ≡ add_some (claim_in o s) (give_clear place clear cs)
 other None s place cs e clear = refl
@@ -63,15 +56,15 @@ other_clear (Some g) s place cs e = go (eqb g.number s.generation) e where
 pub placed : (gs : List Generation) (ss : List Slot) (place i : ℕ) (e : Slot) → i < length ss → NoneAt gs (take i ss) place → is_at gs place (get_or ss i e) ≡ true → IsSlotOf gs ss place i
 placed gs [] place i e lt none is = absurd (omega arith)
 placed gs (s ∷ ss) place zero e lt none is =
-    let f = found (slice_get gs s.entry) s place (claims_in gs ss) is in
+    let f = found (slice_get gs s.key_at) s place (claims_in gs ss) is in
     record { within = lt; there = f.there; place_ = λ d. f.place_; clear_ = λ d. f.clear_; given = λ clear d. f.given clear }
 placed gs (s ∷ ss) place (suc i) e lt none is =
     let rest = placed gs ss place i e (omega arith) none.1 is in record {
       within = lt;
-      there = skipped (slice_get gs s.entry) s place (claims_in gs ss) none.0 ∙ rest.there;
+      there = skipped (slice_get gs s.key_at) s place (claims_in gs ss) none.0 ∙ rest.there;
       place_ = λ d. rest.place_ d;
-      clear_ = λ d. other_clear (slice_get gs s.entry) s place (claims_in gs ss) none.0 ∙ rest.clear_ d;
-      given = λ clear d. ap (λ cs. add_some (slot_claim gs s) cs) (rest.given clear d) ∙ sym (other (slice_get gs s.entry) s place (claims_in gs ss) none.0 clear);
+      clear_ = λ d. other_clear (slice_get gs s.key_at) s place (claims_in gs ss) none.0 ∙ rest.clear_ d;
+      given = λ clear d. ap (λ cs. add_some (slot_claim gs s) cs) (rest.given clear d) ∙ sym (other (slice_get gs s.key_at) s place (claims_in gs ss) none.0 clear);
     }
 
 pub none_at_more : (gs : List Generation) (ss : List Slot) (place i : ℕ) (e : Slot) → i < length ss → NoneAt gs (take i ss) place → is_at gs place (get_or ss i e) ≡ false → NoneAt gs (take (i + 1) ss) place
@@ -88,14 +81,6 @@ kept_cleared gs ss i v clear e kept = record { once = kept.once; behind = go ss 
   go (s ∷ ss) zero e all = (rw e all.0, all.1)
   go (s ∷ ss) (suc i) e all = (all.0, go ss i e all.1)
 
--- the slot at an index is the first of those that are left
-pub drop_more : (ss : List Slot) (i : ℕ) (d : Slot) → i < length ss → drop i ss ≡ get_or ss i d ∷ drop (i + 1) ss
-drop_more ss i d lt = rw add-one (go ss i lt) where
-  go : (ss : List Slot) (i : ℕ) → i < length ss → drop i ss ≡ get_or ss i d ∷ drop (suc i) ss
-  go [] i lt = absurd (omega arith)
-  go (s ∷ ss) zero lt = refl
-  go (s ∷ ss) (suc i) lt = go ss i (omega arith)
-
 -- without the slots of ended claims
 ended_skip : (o : Option Generation) (s : Slot) (cs : List ClaimState) → current_in o s.generation ≡ false → add_some (claim_in o s) cs ≡ cs
 ended_skip None s cs e = refl
@@ -106,7 +91,7 @@ claims_current gs [] = refl
 claims_current gs (s ∷ ss) = go (is_current gs s) refl (claims_current gs ss) where
   go : (b : Bool) → is_current gs s ≡ b → claims_in gs (filter (is_current gs) ss) ≡ claims_in gs ss → claims_in gs (if b then s ∷ filter (is_current gs) ss else filter (is_current gs) ss) ≡ add_some (slot_claim gs s) (claims_in gs ss)
   go true e rest = ap (λ cs. add_some (slot_claim gs s) cs) rest
-  go false e rest = rest ∙ sym (ended_skip (slice_get gs s.entry) s (claims_in gs ss) e)
+  go false e rest = rest ∙ sym (ended_skip (slice_get gs s.key_at) s (claims_in gs ss) e)
 
 behind_filter : (f : Slot → Bool) (gs : List Generation) (ss : List Slot) → AllBehind gs ss → AllBehind gs (filter f ss)
 behind_filter f gs [] all = tt
@@ -119,34 +104,28 @@ pub kept_filter : (f : Slot → Bool) (gs : List Generation) (ss : List Slot) �
 kept_filter f gs ss kept = record { once = kept.once; behind = behind_filter f gs ss kept.behind }
 
 -- without the slots of a place
-other_some : (o : Option Generation) (s : Slot) (place : ℕ) (cs : List ClaimState) → filter (is_other place) (add_some (claim_in o s) cs) ≡ (if not (eqb s.place place) then add_some (claim_in o s) (filter (is_other place) cs) else filter (is_other place) cs)
-other_some None s place cs = same (not (eqb s.place place)) where
-  same : (b : Bool) → filter (is_other place) cs ≡ (if b then filter (is_other place) cs else filter (is_other place) cs)
-  same true = refl
-  same false = refl
-other_some (Some g) s place cs = go (eqb g.number s.generation) where
-  same : (b : Bool) → filter (is_other place) cs ≡ (if b then filter (is_other place) cs else filter (is_other place) cs)
-  same true = refl
-  same false = refl
+unchanged : (b : Bool) (cs : List ClaimState) → cs ≡ (if b then cs else cs)
+unchanged true cs = refl
+unchanged false cs = refl
 
+other_some : (o : Option Generation) (s : Slot) (place : ℕ) (cs : List ClaimState) → filter (is_other place) (add_some (claim_in o s) cs) ≡ (if not (eqb s.place place) then add_some (claim_in o s) (filter (is_other place) cs) else filter (is_other place) cs)
+other_some None s place cs = unchanged (not (eqb s.place place)) (filter (is_other place) cs)
+other_some (Some g) s place cs = go (eqb g.number s.generation) where
   go : (b : Bool) → filter (is_other place) (add_some (if b then Some (claim_with g s) else None) cs) ≡ (if not (eqb s.place place) then add_some (if b then Some (claim_with g s) else None) (filter (is_other place) cs) else filter (is_other place) cs)
   go true = refl
-  go false = same (not (eqb s.place place))
+  go false = unchanged (not (eqb s.place place)) (filter (is_other place) cs)
 
 pub claims_other_place : (gs : List Generation) (ss : List Slot) (place : ℕ) → claims_in gs (filter (is_other_slot place) ss) ≡ filter (is_other place) (claims_in gs ss)
 claims_other_place gs [] place = refl
-claims_other_place gs (s ∷ ss) place = go (not (eqb s.place place)) (claims_other_place gs ss place) ∙ sym (other_some (slice_get gs s.entry) s place (claims_in gs ss)) where
+claims_other_place gs (s ∷ ss) place = go (not (eqb s.place place)) (claims_other_place gs ss place) ∙ sym (other_some (slice_get gs s.key_at) s place (claims_in gs ss)) where
   go : (b : Bool) → claims_in gs (filter (is_other_slot place) ss) ≡ filter (is_other place) (claims_in gs ss) → claims_in gs (if b then s ∷ filter (is_other_slot place) ss else filter (is_other_slot place) ss) ≡ (if b then add_some (slot_claim gs s) (filter (is_other place) (claims_in gs ss)) else filter (is_other place) (claims_in gs ss))
   go true rest = ap (λ cs. add_some (slot_claim gs s) cs) rest
   go false rest = rest
 
-same_yes : (a b : ℕ) → a ≡ b → eqb a b ≡ true
-same_yes a b e = elim (eqb_tells a b) [ inl p ↦ p.0 | inr p ↦ absurd (p.1 e) ]
-
 -- a slot of the place is removed before
 pub filter_removed : (ss : List Slot) (i place : ℕ) (d : Slot) → i < length ss → (get_or ss i d).place ≡ place → filter (is_other_slot place) (remove ss i) ≡ filter (is_other_slot place) ss
 filter_removed [] i place d lt same = absurd (omega arith)
-filter_removed (s ∷ ss) zero place d lt same = (let e = same_yes s.place place same in rw e refl)
+filter_removed (s ∷ ss) zero place d lt same = (let e = eq-eqb s.place place same in rw e refl)
 filter_removed (s ∷ ss) (suc i) place d lt same = go (not (eqb s.place place)) (filter_removed ss i place d (omega arith) same) where
   go : (b : Bool) → filter (is_other_slot place) (remove ss i) ≡ filter (is_other_slot place) ss → (if b then s ∷ filter (is_other_slot place) (remove ss i) else filter (is_other_slot place) (remove ss i)) ≡ (if b then s ∷ filter (is_other_slot place) ss else filter (is_other_slot place) ss)
   go true rest = ap (λ xs. s ∷ xs) rest

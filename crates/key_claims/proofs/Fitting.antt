@@ -1,9 +1,12 @@
 -- Each claim goes on fitting its sample.
-use Rattle.std.proofs.Common.{zero, suc, ◌≡◌, ℕ, ◌+◌, ◌<◌, ◌≤◌, Bool, true, false, not, ◌&&◌, ◌||◌, IsTrue, List, [], ◌∷◌, ◌++◌, length, get_or, Option, Some, None, inl, inr, refl, ap, sym, subst, ◌∙◌, ◌⊎◌, arith, map, eqb, Result, Ok, Err, true≢false, length-append}
-use Rattle.std.specs.Prelude.{if◌then◌else◌, slice_get, IfOk, OnErr}
+use Rattle.std.proofs.Common.{zero, suc, ◌≡◌, ℕ, ◌+◌, ◌<◌, ◌≤◌, Bool, true, false, not, ◌&&◌, IsTrue, List, [], ◌∷◌, ◌++◌, length, get_or, Option, Some, None, inl, inr, refl, ap, sym, subst, ◌∙◌, ◌⊎◌, arith, map, eqb, Result, Ok, Err, true≢false, length-append}
+use Rattle.std.specs.Prelude.{if◌then◌else◌, slice_get, IfOk, OnErr, is_some}
+use Rattle.std.proofs.lemmas.Bool.{and_parts, or_parts, or_right}
+use Rattle.std.proofs.lemmas.Option.{same_Some}
 use Rattle.std.specs.List.{filter}
 use Rattle.std.proofs.Math.Nat.{eq-or-lt_of_le}
 use Rattle.std.proofs.lemmas.Bool.Decides.{eqb_tells}
+use Rattle.eme_types.specs.declared.limits.TheConstants.{CLAIM_WINDOW}
 use Rattle.eme_types.specs.Fed.{is_among, are_distinct}
 use Rattle.eme_types.specs.declared.kid.KeyBytes.{KeyBytes}
 use Rattle.eme_types.specs.declared.sample.EncSample.{EncSample}
@@ -23,14 +26,11 @@ use Rattle.key_claims.specs.Contract.{HoldsWork, claimed}
 use Rattle.key_claims.specs.Fits.{Fits, Apart, IsInHand, fed_at, fed_sample}
 use Rattle.key_claims.specs.Kept.{fed_id}
 use Rattle.key_claims.proofs.Lists.{same_yes, not_same}
-use Rattle.key_claims.proofs.Sound.{In_filter, In_more}
+use Rattle.cdm_world.proofs.Members.{In_filter, In_more}
 use Rattle.key_claims.proofs.Readiness.{ready_there, ready_claimed, ready_on_sample}
 
-some_alone : {A : Type 0} (x y : A) → Some x ≡ Some y → x ≡ y
-some_alone x y e = cc
-
 -- a claim fits on where its sample stays and its index stays in the window
-pub fits_on : (ts us : List FedTrack) (c : ClaimState) (u : FedTrack) → (fit : Fits ts c) → find_fed us c.track ≡ Some u → ((x : EncSample) → slice_get fit.track.fed c.index ≡ Some x → slice_get u.fed c.index ≡ Some x) → length u.outputs ≤ c.index → c.index < length u.outputs + 16 → Fits us c
+pub fits_on : (ts us : List FedTrack) (c : ClaimState) (u : FedTrack) → (fit : Fits ts c) → find_fed us c.track ≡ Some u → ((x : EncSample) → slice_get fit.track.fed c.index ≡ Some x → slice_get u.fed c.index ≡ Some x) → length u.outputs ≤ c.index → c.index < length u.outputs + CLAIM_WINDOW → Fits us c
 fits_on ts us c u fit known up from window = record {
   track = u;
   known = known;
@@ -49,7 +49,7 @@ fits_on ts us c u fit known up from window = record {
 found_id : (ts : List FedTrack) (id : ℕ) (t : FedTrack) → find_fed ts id ≡ Some t → t.id ≡ id
 found_id [] id t e = absurd cc
 found_id (x ∷ ts) id t e = elim (eqb_tells x.id id) [
-  | inl p ↦ (let here : Some x ≡ Some t = rw p.0 at e in ap (λ (y : FedTrack). y.id) (sym (some_alone x t here)) ∙ p.1)
+  | inl p ↦ (let here : Some x ≡ Some t = rw p.0 at e in ap (λ (y : FedTrack). y.id) (sym (same_Some x t here)) ∙ p.1)
   | inr p ↦ found_id ts id t (rw p.0 at e)
 ]
 
@@ -57,7 +57,7 @@ find_changed : (ts : List FedTrack) (i : ℕ) (f : FedTrack → FedTrack) (d : F
 find_changed [] i f d same lt id t e = absurd cc
 find_changed (x ∷ ts) zero f d same lt id t e = elim (eqb_tells x.id id) [
   | inl p ↦ (let here : Some x ≡ Some t = rw p.0 at e in
-      let is = some_alone x t here in
+      let is = same_Some x t here in
       let k : eqb (f x).id id ≡ true = ap (λ (n : ℕ). eqb n id) (same x) ∙ p.0 in
       inr (sym is, rw k (ap (λ (y : FedTrack). Some (f y)) is)))
   | inr p ↦ (let k : eqb (f x).id id ≡ false = ap (λ (n : ℕ). eqb n id) (same x) ∙ p.0 in
@@ -74,7 +74,7 @@ find_mapped [] f same id t e = absurd cc
 find_mapped (x ∷ ts) f same id t e = elim (eqb_tells x.id id) [
   | inl p ↦ (let here : Some x ≡ Some t = rw p.0 at e in
       let k : eqb (f x).id id ≡ true = ap (λ (n : ℕ). eqb n id) (same x) ∙ p.0 in
-      rw k (ap (λ (y : FedTrack). Some (f y)) (some_alone x t here)))
+      rw k (ap (λ (y : FedTrack). Some (f y)) (same_Some x t here)))
   | inr p ↦ (let k : eqb (f x).id id ≡ false = ap (λ (n : ℕ). eqb n id) (same x) ∙ p.0 in rw k (find_mapped ts f same id t (rw p.0 at e)))
 ]
 
@@ -95,7 +95,7 @@ fits_one ts id samples c fit = (let r = find ts fit.known in elim r [
   find [] e = absurd cc
   find (x ∷ ts) e = elim (eqb_tells x.id id) [
     | inl p ↦ elim (eqb_tells x.id c.track) [
-      | inl q ↦ (let here : Some x ≡ Some fit.track = rw q.0 at e in inr (rw (p.0, q.0) (ap (λ (y : FedTrack). Some (more_fed samples y)) (some_alone x fit.track here))))
+      | inl q ↦ (let here : Some x ≡ Some fit.track = rw q.0 at e in inr (rw (p.0, q.0) (ap (λ (y : FedTrack). Some (more_fed samples y)) (same_Some x fit.track here))))
       | inr q ↦ (let there : find_fed ts c.track ≡ Some fit.track = rw q.0 at e in inl (rw (p.0, q.0) there))
     ]
     | inr p ↦ elim (eqb_tells x.id c.track) [
@@ -135,7 +135,7 @@ fits_out ts i bytes d lt c fit other = elim (find_changed ts i (more_out bytes) 
 pub not_clear : (ts : List FedTrack) (i : ℕ) (d : FedTrack) (c : ClaimState) (fit : Fits ts c) (x : EncSample) → head (track_of (get_or ts i d)) ≡ Some x → x.protect ≡ None → fit.track ≡ get_or ts i d → c.index ≡ length (get_or ts i d).outputs → ⊥
 not_clear ts i d c fit x at clear same index =
     let here : slice_get fit.track.fed c.index ≡ Some x = rw (same, index) at in
-    let one : fit.sample ≡ x = some_alone _ _ (sym fit.fed ∙ here) in
+    let one : fit.sample ≡ x = same_Some _ _ (sym fit.fed ∙ here) in
     let clash : Some fit.protect ≡ None = sym fit.protected ∙ (ap (λ (s : EncSample). s.protect) one ∙ clear) in
     absurd cc
 
@@ -162,18 +162,18 @@ not_ready ts claims i place d c ready apart there fit same index =
     let r = ready_there claims t.id (length t.outputs) place (ready_claimed claims t place (ready.on d)) in
     let on = ready_on_sample t.id (length t.outputs) r.claim r.ready in
     let id : c.track ≡ t.id = sym (found_id ts c.track fit.track fit.known) ∙ ap (λ (x : FedTrack). x.id) same in
-    let one : c ≡ r.claim = apart_same claims c r.claim apart (In_filter (is_other place) claims c there) r.there (id ∙ sym on.0) (index ∙ sym on.1) in
+    let one : c ≡ r.claim = apart_same claims c r.claim apart (In_filter (is_other place) claims c there).0 r.there (id ∙ sym on.0) (index ∙ sym on.1) in
     filter_other place claims c there (ap (λ (x : ClaimState). x.place) one ∙ r.place_)
 
 pub apart_filter : (f : ClaimState → Bool) (cs : List ClaimState) → Apart cs → Apart (filter f cs)
 apart_filter f [] apart = tt
 apart_filter f (x ∷ cs) apart = go (f x) (apart_filter f cs apart.1) where
   go : (b : Bool) → Apart (filter f cs) → Apart (if b then x ∷ filter f cs else filter f cs)
-  go true rest = ((λ d there. apart.0 d (In_filter f cs d there)), rest)
+  go true rest = ((λ d there. apart.0 d (In_filter f cs d there).0), rest)
   go false rest = rest
 
 pub fits_filter : (ts : List FedTrack) (f : ClaimState → Bool) (cs : List ClaimState) → ((c : ClaimState) → In cs c → Fits ts c) → (c : ClaimState) → In (filter f cs) c → Fits ts c
-fits_filter ts f cs fits c there = fits c (In_filter f cs c there)
+fits_filter ts f cs fits c there = fits c (In_filter f cs c there).0
 
 -- after a delivery
 
@@ -208,7 +208,7 @@ apart_given place clear (x ∷ cs) apart = go (apart_given place clear cs apart.
 fits_given : (ts : List FedTrack) (held : Claim) (clear : List ℕ) (old c : ClaimState) → Fits ts old → IsInHand ts old held → clear ≡ decryption held.sample held.key → c ≡ record old { clear = Some clear } → Fits ts c
 fits_given ts held clear old c fit hand is same =
     let sample : fed_sample ts held.track held.index ≡ Some fit.sample = rw (← hand.track, ← hand.index) (ap (λ (o : Option FedTrack). fed_at o old.index) fit.known ∙ fit.fed) in
-    let one : held.sample ≡ fit.sample = some_alone _ _ (sym hand.sample ∙ sample) in
+    let one : held.sample ≡ fit.sample = same_Some _ _ (sym hand.sample ∙ sample) in
     let opened : clear ≡ decryption fit.sample old.key = is ∙ (ap (λ (s : EncSample). decryption s held.key) one ∙ ap (λ (k : KeyBytes). decryption fit.sample k) (sym hand.key)) in
     rw same (record { track = fit.track; known = fit.known; sample = fit.sample; fed = fit.fed; protect = fit.protect; protected = fit.protected; same_id = fit.same_id; from = fit.from; window = fit.window; opened = opened })
 
@@ -230,14 +230,7 @@ apart_delivered (Some back) place clear old new did apart = rw did.1 apart
 among_at : (ts : List FedTrack) (i id : ℕ) (d : FedTrack) → i < length ts → (get_or ts i d).id ≡ id → is_among (map fed_id ts) id ≡ true
 among_at [] i id d lt same = absurd (omega arith)
 among_at (t ∷ ts) zero id d lt same = rw (same_yes t.id id same) refl
-among_at (t ∷ ts) (suc i) id d lt same = rw (among_at ts i id d (omega arith) same) (or_right (eqb t.id id)) where
-  or_right : (b : Bool) → (b || true) ≡ true
-  or_right true = refl
-  or_right false = refl
-
-and_both : (a b : Bool) → (a && b) ≡ true → (a ≡ true) × (b ≡ true)
-and_both true b e = (refl, e)
-and_both false b e = absurd cc
+among_at (t ∷ ts) (suc i) id d lt same = rw (among_at ts i id d (omega arith) same) (or_right (eqb t.id id) true refl)
 
 not_true : (b : Bool) → not b ≡ true → b ≡ true → ⊥
 not_true true e f = absurd cc
@@ -247,9 +240,17 @@ pub find_here : (ts : List FedTrack) (i : ℕ) (d : FedTrack) → are_distinct (
 find_here [] i d distinct lt = absurd (omega arith)
 find_here (t ∷ ts) zero d distinct lt = (let e = same_yes t.id t.id refl in rw e refl)
 find_here (t ∷ ts) (suc i) d distinct lt =
-    let both = and_both (not (is_among (map fed_id ts) t.id)) (are_distinct (map fed_id ts)) distinct in
+    let both = and_parts (not (is_among (map fed_id ts) t.id)) (are_distinct (map fed_id ts)) distinct in
     let e = not_same t.id (get_or ts i d).id (λ same. not_true (is_among (map fed_id ts) t.id) both.0 (among_at ts i t.id d (omega arith) (sym same))) in
     rw e (find_here ts i d both.1 (omega arith))
+
+protected : (picks : Picks) (b : Bool) (o : Option Protect) (r : ℕ × KeyBytes) → free_pick picks b o ≡ Some r → is_some o ≡ true
+protected picks b None r e = absurd cc
+protected picks b (Some p) r e = refl
+
+-- a sample that can be claimed is protected
+pub work_protected : (picks : Picks) (claims : List ClaimState) (t : FedTrack) (w : Work) → IsWorkOn picks claims t w → is_some (protect_at t.fed w.index) ≡ true
+work_protected picks claims t w on = protected picks (claimed_in claims t.id w.index) (protect_at t.fed w.index) (w.session, w.key) on.picked
 
 unclaimed : (picks : Picks) (b : Bool) (o : Option Protect) (r : ℕ × KeyBytes) → free_pick picks b o ≡ Some r → b ≡ false
 unclaimed picks b None r e = absurd cc
@@ -262,10 +263,7 @@ not_claimed (c ∷ cs) track index d none (inl e) t i =
     let a = same_yes c.track track (ap (λ (y : ClaimState). y.track) e ∙ t) in
     let b = same_yes c.index index (ap (λ (y : ClaimState). y.index) e ∙ i) in
     (let yes : true ≡ false = rw (a, b) at none in true≢false yes)
-not_claimed (c ∷ cs) track index d none (inr m) t i = not_claimed cs track index d (or_false (eqb c.track track && eqb c.index index) (claimed_in cs track index) none) m t i where
-  or_false : (a b : Bool) → (a || b) ≡ false → b ≡ false
-  or_false true b e = absurd cc
-  or_false false b e = e
+not_claimed (c ∷ cs) track index d none (inr m) t i = not_claimed cs track index d (or_parts (eqb c.track track && eqb c.index index) (claimed_in cs track index) none).1 m t i
 
 apart_more : (cs : List ClaimState) (c : ClaimState) → ((d : ClaimState) → In cs d → d.track ≡ c.track → d.index ≡ c.index → ⊥) → Apart cs → Apart (cs ++ c ∷ [])
 apart_more [] c new apart = ((λ d there. absurd there), tt)

@@ -1,5 +1,5 @@
 -- The claims after a new one.
-use Rattle.std.proofs.Common.{zero, suc, ◌≡◌, ◌<◌, ◌≤◌, ℕ, Bool, ◌||◌, inl, inr, subst, true, false, eqb, List, [], ◌∷◌, ◌++◌, length, set, Option, Some, None, refl, ap, sym, ◌∙◌, arith}
+use Rattle.std.proofs.Common.{zero, suc, ◌≡◌, ◌<◌, ◌≤◌, ℕ, Bool, inl, inr, subst, true, false, eqb, List, [], ◌∷◌, ◌++◌, length, set, Option, Some, None, refl, ap, sym, ◌∙◌, arith}
 use Rattle.std.specs.Prelude.{slice_get}
 use Rattle.key_claims.specs.declared.slots.Generation.{Generation}
 use Rattle.key_claims.specs.declared.slots.Held.{Held}
@@ -9,7 +9,7 @@ use Rattle.key_claims.specs.Slots.{is_of, NoneOf, claim_in, add_some, claims_in}
 use Rattle.key_claims.specs.SlotsKept.{SlotBehind, AllBehind, AllOnce, SlotsKept}
 use Rattle.key_claims.specs.Holds.{slot_of, claim_of, is_held, FreePlace, put_at, IsPut}
 use Rattle.std.proofs.Math.Nat.{eq-or-lt_of_le}
-use Rattle.std.proofs.lemmas.Bool.Decides.{eqb_tells}
+use Rattle.std.proofs.lemmas.Bool.{or_parts, eqb-false}
 use Rattle.key_claims.proofs.Revokes.{is_same, not_same, SameKey, same_of, of_same}
 
 -- one more slot
@@ -17,9 +17,9 @@ add_some-more : (o : Option ClaimState) (xs ys : List ClaimState) → add_some o
 add_some-more None xs ys = refl
 add_some-more (Some c) xs ys = refl
 
-claims_in-more : (gs : List Generation) (ss : List Slot) (s : Slot) → claims_in gs (ss ++ s ∷ []) ≡ claims_in gs ss ++ add_some (claim_in (slice_get gs s.entry) s) []
+claims_in-more : (gs : List Generation) (ss : List Slot) (s : Slot) → claims_in gs (ss ++ s ∷ []) ≡ claims_in gs ss ++ add_some (claim_in (slice_get gs s.key_at) s) []
 claims_in-more gs [] s = refl
-claims_in-more gs (x ∷ xs) s = ap (λ cs. add_some (claim_in (slice_get gs x.entry) x) cs) (claims_in-more gs xs s) ∙ add_some-more (claim_in (slice_get gs x.entry) x) (claims_in gs xs) _
+claims_in-more gs (x ∷ xs) s = ap (λ cs. add_some (claim_in (slice_get gs x.key_at) x) cs) (claims_in-more gs xs s) ∙ add_some-more (claim_in (slice_get gs x.key_at) x) (claims_in gs xs) _
 
 -- under a known key
 pub claims_held : (gs : List Generation) (ss : List Slot) (h : Held) (i n session : ℕ) (kid : List ℕ) (g : Generation) → slice_get gs i ≡ Some g → n ≡ g.number → SameKey session kid g → claims_in gs (ss ++ slot_of h i n ∷ []) ≡ claims_in gs ss ++ claim_of h session kid ∷ []
@@ -52,13 +52,6 @@ put_over old ss g count place is free =
     record { free = λ l. free.1; before = free.2; within = omega (arith, lt); new_ = sym (put_set old place g lt) }
 
 -- a new key at a place that is no slot's changes no claim
-neither : (a b : Bool) → (a || b) ≡ false → (a ≡ false) × (b ≡ false)
-neither true b e = absurd cc
-neither false b e = (refl, e)
-
-unequal : (a b : ℕ) → eqb a b ≡ false → a ≡ b → ⊥
-unequal a b e = elim (eqb_tells a b) [ inl p ↦ absurd (let no : true ≡ false = sym p.0 ∙ e in cc) | inr p ↦ p.1 ]
-
 get_other : (gs : List Generation) (g : Generation) (at j n : ℕ) → SlotBehind (slice_get gs j) n → (j ≡ at → ⊥) → slice_get (put_at gs at g) j ≡ slice_get gs j
 get_other [] g at j n behind other = absurd behind
 get_other (x ∷ gs) g zero zero n behind other = absurd (other refl)
@@ -75,8 +68,8 @@ get_put (x ∷ gs) g (suc at) le = get_put gs g at (omega arith)
 claims_same : (gs : List Generation) (g : Generation) (at : ℕ) (ss : List Slot) → AllBehind gs ss → is_held ss at ≡ false → claims_in (put_at gs at g) ss ≡ claims_in gs ss
 claims_same gs g at [] all free = refl
 claims_same gs g at (s ∷ ss) all free =
-    let k = neither (eqb s.entry at) (is_held ss at) free in
-    rw (get_other gs g at s.entry s.generation all.0 (unequal s.entry at k.0), claims_same gs g at ss all.1 k.1) refl
+    let k = or_parts (eqb s.key_at at) (is_held ss at) free in
+    rw (get_other gs g at s.key_at s.generation all.0 (eqb-false s.key_at at k.0), claims_same gs g at ss all.1 k.1) refl
 
 -- the place after the last key is no slot's
 get_within : (gs : List Generation) (j n : ℕ) → SlotBehind (slice_get gs j) n → j < length gs
@@ -87,8 +80,8 @@ get_within (x ∷ gs) (suc j) n behind = (let lt = get_within gs j n behind in o
 last_free : (gs : List Generation) (ss : List Slot) → AllBehind gs ss → is_held ss (length gs) ≡ false
 last_free gs [] all = refl
 last_free gs (s ∷ ss) all =
-    let lt = get_within gs s.entry s.generation all.0 in
-    let other : eqb s.entry (length gs) ≡ false = not_same s.entry (length gs) (λ e. omega (arith, lt, e)) in
+    let lt = get_within gs s.key_at s.generation all.0 in
+    let other : eqb s.key_at (length gs) ≡ false = not_same s.key_at (length gs) (λ e. omega (arith, lt, e)) in
     rw other (last_free gs ss all.1)
 
 put_free : (old new : List Generation) (ss : List Slot) (g : Generation) (at : ℕ) → IsPut old ss g at new → AllBehind old ss → is_held ss at ≡ false
@@ -104,15 +97,15 @@ pub claims_put : (old new : List Generation) (ss : List Slot) (g : Generation) (
 claims_put old new ss g at put all = rw put.new_ (claims_same old g at ss all (put_free old new ss g at put all))
 
 -- what ties slots to generations stays
-behind_slot : (gs : List Generation) (ss : List Slot) (s : Slot) → AllBehind gs ss → SlotBehind (slice_get gs s.entry) s.generation → AllBehind gs (ss ++ s ∷ [])
+behind_slot : (gs : List Generation) (ss : List Slot) (s : Slot) → AllBehind gs ss → SlotBehind (slice_get gs s.key_at) s.generation → AllBehind gs (ss ++ s ∷ [])
 behind_slot gs [] s all behind = (behind, tt)
 behind_slot gs (x ∷ xs) s all behind = (all.0, behind_slot gs xs s all.1 behind)
 
 behind_put : (gs : List Generation) (g : Generation) (at : ℕ) (ss : List Slot) → AllBehind gs ss → is_held ss at ≡ false → AllBehind (put_at gs at g) ss
 behind_put gs g at [] all free = tt
 behind_put gs g at (s ∷ ss) all free =
-    let k = neither (eqb s.entry at) (is_held ss at) free in
-    (rw (get_other gs g at s.entry s.generation all.0 (unequal s.entry at k.0)) all.0, behind_put gs g at ss all.1 k.1)
+    let k = or_parts (eqb s.key_at at) (is_held ss at) free in
+    (rw (get_other gs g at s.key_at s.generation all.0 (eqb-false s.key_at at k.0)) all.0, behind_put gs g at ss all.1 k.1)
 
 none_put : (gs : List Generation) (g : Generation) (at session : ℕ) (kid : List ℕ) → NoneOf gs session kid → is_of session kid g ≡ false → NoneOf (put_at gs at g) session kid
 none_put [] g at session kid none other = (other, tt)

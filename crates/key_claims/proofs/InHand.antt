@@ -14,7 +14,7 @@ use Rattle.key_claims.specs.Changes.{empty_fed, find_fed}
 use Rattle.key_claims.specs.Contract.{AreBelow, Claims, Delivers, claimed}
 use Rattle.key_claims.specs.Fits.{IsInHand, MayDeliver}
 use Rattle.key_claims.specs.Kept.{AreSound}
-use Rattle.key_claims.proofs.Sound.{In_filter, In_more}
+use Rattle.cdm_world.proofs.Members.{In_filter, In_more}
 use Rattle.key_claims.proofs.Fitting.{given_from, find_here}
 
 -- places
@@ -94,4 +94,4 @@ others_cleared Taken place clear old new held did other may = rw did.1 (λ k the
 
 -- after a revocation
 pub held_revoked : (session : ℕ) (kid : List ℕ) (s new : TracksState) (held : Claim) → new ≡ record s { claims = revoked session kid s.claims } → MayDeliver s held → MayDeliver new held
-held_revoked session kid s new held did may = rw did (λ k there same. may k (In_filter _ s.claims k there) same)
+held_revoked session kid s new held did may = rw did (λ k there same. may k (In_filter _ s.claims k there).0 same)

@@ -11,14 +11,11 @@ use Rattle.eme_types.specs.declared.media.TrackPart.{TrackPart}
 use Rattle.key_claims.specs.declared.feed.Batch.{Batch}
 use Rattle.key_claims.specs.TracksState.{FedTrack}
 use Rattle.key_claims.specs.TrackValue.{TrackValue, fed_track, left_of, fed_of, all_left, all_fed}
-use Rattle.key_claims.specs.Changes.{empty_fed, find_fed, StandsAt, changed_at, change_fed, feed_one, feed_all, more_fed}
+use Rattle.key_claims.specs.Changes.{find_fed, StandsAt, changed_at, change_fed, feed_one, feed_all, more_fed}
 use Rattle.key_claims.specs.Feeds.{batch_len, batch_part, coming, needed_by, IsReadyFor, AreReadyFor, Took, TookBatch}
 
 pub no_track : TrackValue
 no_track = record { track = record { id = 0; fed = []; outputs = []; waiting = false }; spare = 0; room = 0 }
-
-pub with_room : FedTrack → TrackValue
-with_room d = record { track = d; spare = 0; room = 0 }
 
 pub any_value : (vs : List TrackValue) (i : ℕ) (d e : TrackValue) → i < length vs → get_or vs i d ≡ get_or vs i e
 any_value [] i d e lt = absurd (omega arith)
@@ -206,10 +203,6 @@ map_end f [] i le = ends i where
   ends (suc i) = refl
 map_end f (x ∷ xs) zero le = absurd (omega arith)
 map_end f (x ∷ xs) (suc i) le = ap (λ zs. f x ∷ zs) (map_end f xs i (omega arith))
-
--- one more track, without a sample
-pub empty_more : (vs us : List TrackValue) (ids more : List ℕ) (v : TrackValue) (id : ℕ) → us ≡ vs ++ v ∷ [] → more ≡ ids ++ id ∷ [] → v.track ≡ empty_fed id → map fed_track vs ≡ map empty_fed ids → map fed_track us ≡ map empty_fed more
-empty_more vs us ids more v id is moreis same rest = rw (is, moreis) (map-append fed_track vs (v ∷ []) ∙ (ap (λ (t : FedTrack). map fed_track vs ++ t ∷ []) same ∙ (ap (λ (ts : List FedTrack). ts ++ empty_fed id ∷ []) rest ∙ sym (map-append empty_fed ids (id ∷ [])))))
 
 -- what is left is within what was fed
 left_within : (ts : List FedTrack) → all_left ts ≤ all_fed ts

@@ -4,9 +4,8 @@ use Rattle.std.specs.Prelude.{if◌then◌else◌, ◌&&◌, is_some, is_none, n
 use Rattle.cdm_world.specs.In.{In}
 use Rattle.eme_types.specs.declared.sample.EncSample.{EncSample}
 use Rattle.eme_types.specs.declared.sample.Protect.{Protect}
-use Rattle.std.proofs.lemmas.Bool.{lt-ltb}
-use Rattle.std.proofs.lemmas.Bool.Decides.{eqb_tells}
-use Rattle.std.proofs.lemmas.Option.{slice_get_within}
+use Rattle.std.proofs.lemmas.Bool.{lt-ltb, and_parts, eqb-true}
+use Rattle.std.proofs.lemmas.Option.{slice_get_within, same_Some}
 use Rattle.cdm_world.specs.Tracks.{head}
 use Rattle.key_claims.specs.TracksState.{ClaimState, FedTrack, track_of}
 use Rattle.key_claims.specs.Claims.{is_ready, ready_claim, clear_at}
@@ -25,9 +24,6 @@ ready_case false o p e = absurd cc
 pub ready_fed : (claims : List ClaimState) (t : FedTrack) (place : ℕ) → ready_on claims t ≡ Some place → length t.outputs < length t.fed
 ready_fed claims t place e = lt_test (length t.outputs) (length t.fed) (ready_case (nat_lt (length t.outputs) (length t.fed)) (ready_claim claims t.id (length t.outputs)) place e).0
 
-some_place : (a b : ℕ) → Some a ≡ Some b → a ≡ b
-some_place a b e = cc
-
 -- the claim of the place that is ready
 pub record ReadyAt (claims : List ClaimState) (track index place : ℕ) : Type 0 where
   pub claim : ClaimState
@@ -39,17 +35,13 @@ pub ready_there : (claims : List ClaimState) (track index place : ℕ) → ready
 ready_there [] track index place e = absurd cc
 ready_there (c ∷ cs) track index place e = go (λ f. ready_there cs track index place f) (is_ready track index c) refl e where
   go : (ready_claim cs track index ≡ Some place → ReadyAt cs track index place) → (b : Bool) → is_ready track index c ≡ b → (if b then Some c.place else ready_claim cs track index) ≡ Some place → ReadyAt (c ∷ cs) track index place
-  go again true is e = record { claim = c; there = inl refl; place_ = some_place c.place place e; ready = is }
+  go again true is e = record { claim = c; there = inl refl; place_ = same_Some c.place place e; ready = is }
   go again false is e = (let r = again e in record { claim = r.claim; there = inr r.there; place_ = r.place_; ready = r.ready })
 
 pub clear_of : (claims : List ClaimState) (c : ClaimState) → Once claims → In claims c → clear_at c.place claims ≡ c.clear
 clear_of [] c once there = absurd there
 clear_of (x ∷ cs) c once (inl e) = rw (← e) (let same = same_yes x.place x.place refl in rw same refl)
 clear_of (x ∷ cs) c once (inr m) = (let other = not_same x.place c.place (once.0 c m) in rw other (clear_of cs c once.1 m))
-
-and_right : (a b : Bool) → (a && b) ≡ true → b ≡ true
-and_right true b e = e
-and_right false b e = absurd cc
 
 some_clear : (o : Option (List ℕ)) → is_some o ≡ true → (b : List ℕ) × (o ≡ Some b)
 some_clear None e = absurd cc
@@ -58,7 +50,7 @@ some_clear (Some b) e = (b, refl)
 pub ready_clear : (claims : List ClaimState) (t : FedTrack) (place : ℕ) → Once claims → ready_on claims t ≡ Some place → (clear : List ℕ) × (clear_at place claims ≡ Some clear)
 ready_clear claims t place once e =
     let r = ready_there claims t.id (length t.outputs) place (ready_case (nat_lt (length t.outputs) (length t.fed)) (ready_claim claims t.id (length t.outputs)) place e).1 in
-    let b = some_clear r.claim.clear (and_right _ (is_some r.claim.clear) r.ready) in
+    let b = some_clear r.claim.clear (and_parts _ (is_some r.claim.clear) r.ready).1 in
     (b.0, ap (λ p. clear_at p claims) (sym r.place_) ∙ (clear_of claims r.claim once r.there ∙ b.1))
 
 pub put_clear : (o : Option (List ℕ)) (clear : List ℕ) (P : Type 0) (Q : List ℕ → Type 0) → o ≡ Some clear → MatchOption o P Q → Q clear
@@ -89,19 +81,12 @@ first_ready (x ∷ cs) track index c there is = go (is_ready track index x) refl
 pub ready_some : (claims : List ClaimState) (t : FedTrack) (c : ClaimState) → length t.outputs < length t.fed → In claims c → is_ready t.id (length t.outputs) c ≡ true → (place : ℕ) × (ready_on claims t ≡ Some place)
 ready_some claims t c fed there is = (let r = first_ready claims t.id (length t.outputs) c there is in let lt = lt-ltb (length t.outputs) (length t.fed) fed in (r.0, rw lt r.1))
 
-and_first : (a b : Bool) → (a && b) ≡ true → (a ≡ true) × (b ≡ true)
-and_first true b e = (refl, e)
-and_first false b e = absurd cc
-
-number_is : (a b : ℕ) → eqb a b ≡ true → a ≡ b
-number_is a b e = elim (eqb_tells a b) [ inl p ↦ p.1 | inr p ↦ absurd (let no : false ≡ true = sym p.0 ∙ e in cc) ]
-
 -- the sample that a claim that is ready is on
 pub ready_on_sample : (track index : ℕ) (c : ClaimState) → is_ready track index c ≡ true → (c.track ≡ track) × (c.index ≡ index)
 ready_on_sample track index c e =
-    let a = and_first (eqb c.track track && eqb c.index index) (is_some c.clear) e in
-    let b = and_first (eqb c.track track) (eqb c.index index) a.0 in
-    (number_is c.track track b.0, number_is c.index index b.1)
+    let a = and_parts (eqb c.track track && eqb c.index index) (is_some c.clear) e in
+    let b = and_parts (eqb c.track track) (eqb c.index index) a.0 in
+    (eqb-true c.track track b.0, eqb-true c.index index b.1)
 
 none_protect : (p : Option Protect) → is_none p ≡ true → p ≡ None
 none_protect None e = refl

@@ -3,6 +3,7 @@ use Rattle.std.proofs.Common.{zero, suc, ◌≡◌, ℕ, ◌+◌, ◌<◌, ◌�
 use Rattle.std.specs.Prelude.{slice_get, slice_set, not, if◌then◌else◌}
 use Rattle.std.specs.Str.{bytes_eq}
 use Rattle.std.proofs.lemmas.Bool.Decides.{eqb_tells}
+use Rattle.std.proofs.lemmas.Option.{slice_get-get_or}
 use Rattle.key_claims.specs.declared.slots.Generation.{Generation}
 use Rattle.key_claims.specs.declared.slots.Slot.{Slot}
 use Rattle.key_claims.specs.TracksState.{ClaimState}
@@ -106,14 +107,14 @@ claim_after (x ∷ gs) (suc i) (suc j) session kid g s once at same behind = cla
 pub claims_after : (gs : List Generation) (ss : List Slot) (i session : ℕ) (kid : List ℕ) (g : Generation) → AllOnce gs → slice_get gs i ≡ Some g → SameKey session kid g → AllBehind gs ss → claims_in (slice_set gs i (bumped g)) ss ≡ revoked session kid (claims_in gs ss)
 claims_after gs [] i session kid g once at same behind = refl
 claims_after gs (s ∷ ss) i session kid g once at same behind =
-    rw (claim_after gs i s.entry session kid g s once at same behind.0, claims_after gs ss i session kid g once at same behind.1) (filter_some session kid (slot_claim gs s) (claims_in gs ss))
+    rw (claim_after gs i s.key_at session kid g s once at same behind.0, claims_after gs ss i session kid g once at same behind.1) (filter_some session kid (slot_claim gs s) (claims_in gs ss))
 
 -- where the key is not known, there is no claim under it
 pub claims_other : (gs : List Generation) (ss : List Slot) (session : ℕ) (kid : List ℕ) → NoneOf gs session kid → claims_in gs ss ≡ revoked session kid (claims_in gs ss)
 claims_other gs [] session kid none = refl
 claims_other gs (s ∷ ss) session kid none =
     ap (λ cs. add_some (slot_claim gs s) cs) (claims_other gs ss session kid none)
-    ∙ (ap (λ o. add_some o (revoked session kid (claims_in gs ss))) (other_same session kid (slice_get gs s.entry) s (none_get gs session kid s.entry none)) ∙ filter_some session kid (slot_claim gs s) (claims_in gs ss))
+    ∙ (ap (λ o. add_some o (revoked session kid (claims_in gs ss))) (other_same session kid (slice_get gs s.key_at) s (none_get gs session kid s.key_at none)) ∙ filter_some session kid (slot_claim gs s) (claims_in gs ss))
 
 -- what ties slots to generations stays
 none_set : (gs : List Generation) (i : ℕ) (g : Generation) (session : ℕ) (kid : List ℕ) → slice_get gs i ≡ Some g → NoneOf gs session kid → NoneOf (slice_set gs i (bumped g)) session kid
@@ -135,7 +136,7 @@ behind_set (x ∷ gs) (suc i) (suc j) n g at behind = behind_set gs i j n g at b
 
 all_behind_set : (gs : List Generation) (ss : List Slot) (i : ℕ) (g : Generation) → slice_get gs i ≡ Some g → AllBehind gs ss → AllBehind (slice_set gs i (bumped g)) ss
 all_behind_set gs [] i g at all = tt
-all_behind_set gs (s ∷ ss) i g at all = (behind_set gs i s.entry s.generation g at all.0, all_behind_set gs ss i g at all.1)
+all_behind_set gs (s ∷ ss) i g at all = (behind_set gs i s.key_at s.generation g at all.0, all_behind_set gs ss i g at all.1)
 
 pub kept_after : (gs : List Generation) (ss : List Slot) (i : ℕ) (g : Generation) → slice_get gs i ≡ Some g → SlotsKept gs ss → SlotsKept (slice_set gs i (bumped g)) ss
 kept_after gs ss i g at kept = record { once = once_set gs i g at kept.once; behind = all_behind_set gs ss i g at kept.behind }
@@ -179,7 +180,7 @@ ended_in (x ∷ gs) (suc i) (suc j) session kid g s once at same big = rw eqb_su
 pub claims_ended : (gs : List Generation) (ss : List Slot) (i session : ℕ) (kid : List ℕ) (g : Generation) → AllOnce gs → slice_get gs i ≡ Some g → SameKey session kid g → 0 < g.number → claims_in gs (map (ended i) ss) ≡ revoked session kid (claims_in gs ss)
 claims_ended gs [] i session kid g once at same big = refl
 claims_ended gs (s ∷ ss) i session kid g once at same big =
-    rw (ended_in gs i s.entry session kid g s once at same big, claims_ended gs ss i session kid g once at same big) (filter_some session kid (slot_claim gs s) (claims_in gs ss))
+    rw (ended_in gs i s.key_at session kid g s once at same big, claims_ended gs ss i session kid g once at same big) (filter_some session kid (slot_claim gs s) (claims_in gs ss))
 
 behind_less : (o : Option Generation) (n : ℕ) (b : Bool) → SlotBehind o n → SlotBehind o (if b then 0 else n)
 behind_less None n b behind = absurd behind
@@ -190,21 +191,12 @@ pub kept_ended : (gs : List Generation) (ss : List Slot) (i : ℕ) → SlotsKept
 kept_ended gs ss i kept = record { once = kept.once; behind = go ss kept.behind } where
   go : (ss : List Slot) → AllBehind gs ss → AllBehind gs (map (ended i) ss)
   go [] all = tt
-  go (s ∷ ss) all = (behind_less (slice_get gs s.entry) s.generation (eqb s.entry i) all.0, go ss all.1)
+  go (s ∷ ss) all = (behind_less (slice_get gs s.key_at) s.generation (eqb s.key_at i) all.0, go ss all.1)
 
--- the item at an index that is there
-pub get_there : (gs : List Generation) (i : ℕ) (d : Generation) → i < length gs → slice_get gs i ≡ Some (get_or gs i d)
-get_there [] i d lt = absurd (omega arith)
-get_there (g ∷ gs) zero d lt = refl
-get_there (g ∷ gs) (suc i) d lt = get_there gs i d (omega arith)
-
-pub key_at : (gs : List Generation) (i session : ℕ) (kid : List ℕ) (g : Generation) → KeyPlace gs session kid (Some i) → slice_get gs i ≡ Some g → SameKey session kid g
-key_at gs i session kid g place at =
-    let e : get_or gs i g ≡ g = cc (get_there gs i g place.0) in
+pub key_there : (gs : List Generation) (i session : ℕ) (kid : List ℕ) (g : Generation) → KeyPlace gs session kid (Some i) → slice_get gs i ≡ Some g → SameKey session kid g
+key_there gs i session kid g place at =
+    let e : get_or gs i g ≡ g = cc (slice_get-get_or gs i g place.0) in
     of_same session kid g (rw e at (place.1 g))
 
-pub bumps_not : (gs : List Generation) (i : ℕ) (d : Generation) → i < length gs → 0 < (get_or gs i d).number → Bumps gs i false gs
-bumps_not gs i d lt big = (get_or gs i d, get_there gs i d lt, big, refl)
-
 pub bumps : (gs : List Generation) (i : ℕ) (g : Generation) → i < length gs → g ≡ get_or gs i g → Bumps gs i true (slice_set gs i (bumped g))
-bumps gs i g lt e = (g, get_there gs i g lt ∙ ap Some (sym e), refl)
+bumps gs i g lt e = (g, slice_get-get_or gs i g lt ∙ ap Some (sym e), refl)

@@ -1,6 +1,7 @@
 -- What a track shows.
 use Rattle.std.proofs.Common.{zero, suc, ◌≡◌, ℕ, ◌<◌, ◌≤◌, List, [], ◌∷◌, ◌++◌, length, Some, None, refl, ap, arith}
 use Rattle.std.specs.Prelude.{slice_get}
+use Rattle.std.proofs.lemmas.Option.{same_Some}
 use Rattle.eme_types.specs.declared.sample.EncSample.{EncSample}
 use Rattle.key_claims.specs.declared.track.Output.{Output}
 use Rattle.key_claims.specs.TrackValue.{bytes_out, shown}
@@ -16,12 +17,9 @@ shown_fed [] more (o ∷ os) le = absurd (omega (arith, le))
 shown_fed (x ∷ fed) more [] le = refl
 shown_fed (x ∷ fed) more (o ∷ os) le = ap (λ (ys : List (List ℕ)). bytes_out x o ∷ ys) (shown_fed fed more os (omega (arith, le)))
 
-some_alone : (a b : EncSample) → Some a ≡ Some b → a ≡ b
-some_alone a b e = cc
-
 pub shown_put : (fed : List EncSample) (os : List Output) (o : Output) (x : EncSample) → slice_get fed (length os) ≡ Some x → shown fed (os ++ o ∷ []) ≡ shown fed os ++ bytes_out x o ∷ []
 shown_put [] os o x at = absurd cc
-shown_put (y ∷ fed) [] o x at = ap (λ (z : EncSample). bytes_out z o ∷ []) (some_alone y x at)
+shown_put (y ∷ fed) [] o x at = ap (λ (z : EncSample). bytes_out z o ∷ []) (same_Some y x at)
 shown_put (y ∷ fed) (p ∷ os) o x at = ap (λ (ys : List (List ℕ)). bytes_out y p ∷ ys) (shown_put fed os o x at)
 
 some_output : (a b : Output) → Some a ≡ Some b → a ≡ b
@@ -30,7 +28,7 @@ some_output a b e = cc
 pub shown_at : (fed : List EncSample) (os : List Output) (i : ℕ) (x : EncSample) (o : Output) → slice_get fed i ≡ Some x → slice_get os i ≡ Some o → slice_get (shown fed os) i ≡ Some (bytes_out x o)
 shown_at fed [] i x o f g = absurd cc
 shown_at [] (p ∷ os) i x o f g = absurd cc
-shown_at (y ∷ fed) (p ∷ os) zero x o f g = (let a : y ≡ x = some_alone _ _ f in let b : p ≡ o = some_output _ _ g in rw (a, b) refl)
+shown_at (y ∷ fed) (p ∷ os) zero x o f g = (let a : y ≡ x = same_Some _ _ f in let b : p ≡ o = some_output _ _ g in rw (a, b) refl)
 shown_at (y ∷ fed) (p ∷ os) (suc i) x o f g = shown_at fed os i x o f g
 
 pub shown_past : (fed : List EncSample) (os : List Output) (i : ℕ) → length os ≤ i → slice_get (shown fed os) i ≡ None

@@ -1,5 +1,5 @@
 -- What the tracks keep goes on.
-use Rattle.std.proofs.Common.{zero, suc, ◌≡◌, ℕ, ◌+◌, ◌≤◌, Bool, true, false, List, [], ◌∷◌, ◌++◌, length, Option, Some, None, inl, inr, refl, ap, sym, subst, ◌∙◌, ◌⊎◌, arith, map, eqb, length-append, Result, Ok, Err}
+use Rattle.std.proofs.Common.{zero, suc, ◌≡◌, ℕ, ◌+◌, ◌≤◌, Bool, true, false, List, [], ◌∷◌, ◌++◌, length, Option, Some, None, inl, inr, refl, ap, sym, subst, ◌∙◌, arith, map, eqb, length-append, Result, Ok, Err}
 use Rattle.std.specs.Prelude.{if◌then◌else◌, IfOk, OnErr}
 use Rattle.std.specs.List.{filter, sum_by}
 use Rattle.std.proofs.lemmas.List.Sums.{sum_by-cons}
@@ -7,6 +7,7 @@ use Rattle.eme_types.specs.declared.sample.EncSample.{EncSample}
 use Rattle.eme_types.specs.declared.media.TrackPart.{TrackPart}
 use Rattle.eme_types.specs.Fed.{part_samples}
 use Rattle.cdm_world.specs.In.{In}
+use Rattle.cdm_world.proofs.Members.{In_filter, In_more}
 use Rattle.key_claims.specs.TracksState.{ClaimState, FedTrack}
 use Rattle.key_claims.specs.Claims.{give_clear, DeliversTo}
 use Rattle.key_claims.specs.Contract.{AreBelow, HoldsWork, claimed}
@@ -17,26 +18,12 @@ use Rattle.key_claims.specs.Kept.{Once}
 use Rattle.key_claims.specs.TrackValue.{fed_of, all_fed}
 use Rattle.key_claims.specs.Changes.{empty_fed, changed_at, change_fed, feed_one, feed_all, more_fed}
 
-pub In_filter : (f : ClaimState → Bool) (cs : List ClaimState) (c : ClaimState) → In (filter f cs) c → In cs c
-In_filter f [] c there = absurd there
-In_filter f (x ∷ cs) c there = go (λ m. In_filter f cs c m) (f x) there where
-  go : (In (filter f cs) c → In cs c) → (b : Bool) → In (if b then x ∷ filter f cs else filter f cs) c → In (x ∷ cs) c
-  go again true (inl e) = inl e
-  go again true (inr m) = inr (again m)
-  go again false m = inr (again m)
-
 pub once_filter : (f : ClaimState → Bool) (cs : List ClaimState) → Once cs → Once (filter f cs)
 once_filter f [] once = tt
 once_filter f (x ∷ cs) once = go (f x) (once_filter f cs once.1) where
   go : (b : Bool) → Once (filter f cs) → Once (if b then x ∷ filter f cs else filter f cs)
-  go true rest = ((λ d there. once.0 d (In_filter f cs d there)), rest)
+  go true rest = ((λ d there. once.0 d (In_filter f cs d there).0), rest)
   go false rest = rest
-
-pub In_more : (cs : List ClaimState) (c d : ClaimState) → In (cs ++ c ∷ []) d → In cs d ⊎ (c ≡ d)
-In_more [] c d (inl e) = inr e
-In_more [] c d (inr m) = absurd m
-In_more (x ∷ cs) c d (inl e) = inl (inl e)
-In_more (x ∷ cs) c d (inr m) = elim (In_more cs c d m) [ inl a ↦ inl (inr a) | inr e ↦ inr e ]
 
 pub once_more : (cs : List ClaimState) (c : ClaimState) → AreBelow c.place cs → Once cs → Once (cs ++ c ∷ [])
 once_more [] c below once = ((λ d there. absurd there), tt)

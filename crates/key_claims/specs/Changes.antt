@@ -6,6 +6,7 @@ use Rattle.eme_types.specs.declared.media.TrackPart.{TrackPart}
 use Rattle.cdm_world.specs.Tracks.{Picks, head, has_pick}
 use Rattle.key_claims.specs.TracksState.{FedTrack, track_of}
 
+-- a track without a sample
 abbrev pub empty_fed : ℕ → FedTrack
 empty_fed id = record { id = id; fed = []; outputs = []; waiting = false }
 
@@ -20,10 +21,12 @@ pub record StandsAt (tracks : List FedTrack) (id i : ℕ) : Type 0 where
   pub first : find_fed (take i tracks) id ≡ None
   pub same : (d : FedTrack) → (slice_index_or tracks i d).id ≡ id
 
+-- what is out of the track, if it is there
 abbrev pub outputs_of : Option FedTrack → List (List ℕ)
 outputs_of None = []
 outputs_of (Some t) = t.outputs
 
+-- the track is there and waits for a key
 abbrev pub waits : Option FedTrack → Bool
 waits None = false
 waits (Some t) = t.waiting
@@ -38,9 +41,11 @@ changed_at (t ∷ more) (suc i) f = t ∷ changed_at more i f
 abbrev pub more_out : List ℕ → FedTrack → FedTrack
 more_out bytes t = record t { outputs = t.outputs ++ bytes ∷ [] }
 
+-- the samples are fed behind those that were
 abbrev pub more_fed : List EncSample → FedTrack → FedTrack
 more_fed samples t = record t { fed = t.fed ++ samples }
 
+-- the track waits for a key, or no longer does
 abbrev pub with_waiting : Bool → FedTrack → FedTrack
 with_waiting waiting t = record t { waiting = waiting }
 
@@ -49,6 +54,7 @@ abbrev pub change_fed : List FedTrack → ℕ → (FedTrack → FedTrack) → Li
 change_fed [] id f = []
 change_fed (t ∷ more) id f = if t.id == id then f t ∷ more else t ∷ change_fed more id f
 
+-- the samples of a part come to its track
 abbrev pub feed_one : List FedTrack → TrackPart → List FedTrack
 feed_one tracks part = change_fed tracks part.track (more_fed part.samples)
 

@@ -66,6 +66,16 @@ pub record Publishes (old : TracksState) (p : Published) (new : TracksState) : T
   pub tracks : new.tracks ≡ changed_at old.tracks at (more_out clear)
   pub claims : new.claims ≡ filter (is_other place) old.claims
 
+-- the same, with the place of the claim in the answer
+pub record PublishesReady (old : TracksState) (r : Ready) (new : TracksState) : Type 0 where
+  pub at : ℕ
+  pub first : IsReady old.claims old.tracks at r.place
+  pub next : IsNext old.tracks at r.track r.index
+  pub clear : List ℕ
+  pub delivered : clear_at r.place old.claims ≡ Some clear
+  pub tracks : new.tracks ≡ changed_at old.tracks at (more_out clear)
+  pub claims : new.claims ≡ filter (is_other r.place) old.claims
+
 -- what the publication of a clear sample answers and leaves: the bytes of the first clear head are out
 pub record PassesClear (old : TracksState) (p : Published) (new : TracksState) : Type 0 where
   pub at : ℕ

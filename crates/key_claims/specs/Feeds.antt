@@ -5,6 +5,7 @@ use Rattle.eme_types.specs.declared.media.TrackPart.{TrackPart}
 use Rattle.key_claims.specs.declared.feed.Batch.{Batch}
 use Rattle.key_claims.specs.TrackValue.{TrackValue, left_of}
 
+-- the number of samples of a batch
 abbrev pub batch_len : Batch → ℕ
 batch_len b = length b.samples.items
 
@@ -16,6 +17,7 @@ batch_part b = record { track = b.track; samples = b.samples.items }
 abbrev pub coming : ℕ → Batch → ℕ
 coming id b = if b.track == id then batch_len b else 0
 
+-- how many samples the batches bring to the track
 abbrev pub needed_by : ℕ → List Batch → ℕ
 needed_by id batches = sum_by (coming id) batches
 
@@ -24,6 +26,7 @@ pub record IsReadyFor (batches : List Batch) (v : TrackValue) : Type 0 where
   pub fed : needed_by v.track.id batches ≤ v.spare
   pub outputs : left_of v.track + needed_by v.track.id batches ≤ v.room
 
+-- each track has the room for what the batches bring it
 abbrev pub AreReadyFor : List Batch → List TrackValue → Type 0
 AreReadyFor batches vs = (k : ℕ) (d : TrackValue) → k < length vs → IsReadyFor batches (slice_index_or vs k d)
 

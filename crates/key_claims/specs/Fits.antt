@@ -1,5 +1,6 @@
 -- What is kept of each claim.
 use Rattle.std.specs.Prelude.{ℕ, ◌≡◌, ◌+◌, ◌≤◌, ◌<◌, List, [], ◌∷◌, length, slice_get, Option, Some, None}
+use Rattle.eme_types.specs.declared.limits.TheConstants.{CLAIM_WINDOW}
 use Rattle.eme_types.specs.declared.kid.KeyBytes.{KeyBytes}
 use Rattle.eme_types.specs.declared.sample.EncSample.{EncSample}
 use Rattle.eme_types.specs.declared.sample.Protect.{Protect}
@@ -9,6 +10,7 @@ use Rattle.key_claims.specs.declared.claim.Claim.{Claim}
 use Rattle.key_claims.specs.TracksState.{ClaimState, FedTrack, TracksState}
 use Rattle.key_claims.specs.Changes.{find_fed}
 
+-- the sample at an index of the track, if both are there
 abbrev pub fed_at : Option FedTrack → ℕ → Option EncSample
 fed_at None index = None
 fed_at (Some t) index = slice_get t.fed index
@@ -32,7 +34,7 @@ pub record Fits (tracks : List FedTrack) (c : ClaimState) : Type 0 where
   pub protected : sample.protect ≡ Some protect
   pub same_id : protect.kid ≡ c.kid
   pub from : length track.outputs ≤ c.index
-  pub window : c.index < length track.outputs + 16
+  pub window : c.index < length track.outputs + CLAIM_WINDOW
   pub opened : IsOpened c.clear sample c.key
 
 -- no two claims are on one sample

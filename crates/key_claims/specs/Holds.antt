@@ -5,16 +5,18 @@ use Rattle.key_claims.specs.declared.slots.Held.{Held}
 use Rattle.key_claims.specs.declared.slots.Slot.{Slot}
 use Rattle.key_claims.specs.TracksState.{ClaimState}
 
+-- the slot of a claim under the key at a place of the list, of a generation
 abbrev pub slot_of : Held → ℕ → ℕ → Slot
-slot_of h entry generation = record { place = h.place; worker = h.worker; track = h.track; index = h.index; entry = entry; generation = generation; key = h.key; clear = None }
+slot_of h key_at generation = record { place = h.place; worker = h.worker; track = h.track; index = h.index; key_at = key_at; generation = generation; key = h.key; clear = None }
 
+-- a claim as contracts see it, without clear bytes
 abbrev pub claim_of : Held → ℕ → List ℕ → ClaimState
 claim_of h session kid = record { place = h.place; worker = h.worker; track = h.track; index = h.index; session = session; kid = kid; key = h.key; clear = None }
 
 -- a slot has its key at the place
 abbrev pub is_held : List Slot → ℕ → Bool
 is_held [] place = false
-is_held (s ∷ ss) place = s.entry == place || is_held ss place
+is_held (s ∷ ss) place = s.key_at == place || is_held ss place
 
 -- the first place below the count that is not held, or every one is held
 abbrev pub FreePlace : List Slot → ℕ → Option ℕ → Type 0

@@ -13,6 +13,7 @@ abbrev pub Once : List ClaimState → Type 0
 Once [] = Unit {0}
 Once (c ∷ more) = ((d : ClaimState) → In more d → c.place ≡ d.place → ⊥) × Once more
 
+-- the id of a track
 abbrev pub fed_id : FedTrack → ℕ
 fed_id t = t.id
 
@@ -24,8 +25,10 @@ pub record AreSound (s : TracksState) : Type 0 where
   pub fits : (c : ClaimState) → In s.claims c → Fits s.tracks c
   pub apart : Apart s.claims
 
+-- what contracts see of the tracks
 abbrev pub state_of : Inside → TracksState
 state_of c = record { tracks = map fed_track c.tracks.items; claims = c.claims }
 
+-- what the tracks keep is sound
 abbrev pub IsKept : Inside → Type 0
 IsKept c = AreSound (state_of c)

@@ -11,21 +11,25 @@ abbrev pub SlotBehind : Option Generation → ℕ → Type 0
 SlotBehind None generation = ⊥
 SlotBehind (Some g) generation = generation ≤ g.number
 
+-- each slot's key is there, and of the slot's generation or a later one
 abbrev pub AllBehind : List Generation → List Slot → Type 0
 AllBehind gs [] = Unit {0}
-AllBehind gs (s ∷ ss) = SlotBehind (slice_get gs s.entry) s.generation × AllBehind gs ss
+AllBehind gs (s ∷ ss) = SlotBehind (slice_get gs s.key_at) s.generation × AllBehind gs ss
 
 -- each session's key stands once
 abbrev pub AllOnce : List Generation → Type 0
 AllOnce [] = Unit {0}
 AllOnce (g ∷ gs) = NoneOf gs g.session g.kid × AllOnce gs
 
+-- no key of a session stands twice, and each slot is behind its key
 pub record SlotsKept (gs : List Generation) (ss : List Slot) : Type 0 where
   pub once : AllOnce gs
   pub behind : AllBehind gs ss
 
+-- the claims that are not ended
 abbrev pub claims_of : Inside → List ClaimState
 claims_of c = claims_in c.generations.items c.slots.items
 
+-- what the claims keep
 abbrev pub AreKept : Inside → Type 0
 AreKept c = SlotsKept c.generations.items c.slots.items

@@ -14,6 +14,7 @@ pub record TrackValue : Type 0 where
   pub spare : ℕ
   pub room : ℕ
 
+-- the track without its room
 abbrev pub fed_track : TrackValue → FedTrack
 fed_track v = v.track
 
@@ -22,6 +23,7 @@ abbrev pub bytes_out : EncSample → Output → List ℕ
 bytes_out sample (Opened bytes) = bytes
 bytes_out sample Same = sample.bytes
 
+-- the bytes that are out
 abbrev pub shown : List EncSample → List Output → List (List ℕ)
 shown fed [] = []
 shown [] (o ∷ os) = []
@@ -35,9 +37,11 @@ resumed_value picks v = record v { track = resumed_one picks v.track }
 abbrev pub left_of : FedTrack → ℕ
 left_of t = length t.fed - length t.outputs
 
+-- how many fed samples of all tracks are not out
 abbrev pub all_left : List FedTrack → ℕ
 all_left tracks = sum_by left_of tracks
 
+-- the number of fed samples
 abbrev pub fed_of : FedTrack → ℕ
 fed_of t = length t.fed
 

@@ -8,7 +8,7 @@ ghost use Rattle.key_claims.specs.Choice.{claim_pick, NoWorkOn, IsWorkOn, NoWork
 
 use crate::claims::Claims;
 use crate::track::Track;
-use eme_types::{KeyBytes, KeyId};
+use eme_types::{CLAIM_WINDOW, KeyBytes, KeyId};
 use key_statuses::{Pick, Picks};
 
 /// A sample that can be claimed: its track's place in the list, its index, and the pick of its key id.
@@ -50,7 +50,7 @@ fn work_on<P: Picks>(sessions: &P, claims: &Claims, track: &Track, at: usize) ->
         return None;
     }
     let from = track.published();
-    let end = from.saturating_add(16);
+    let end = from.saturating_add(CLAIM_WINDOW as usize);
     for index in from..end {
         match claimable(sessions, claims, track, index) {
             None => {}

@@ -36,7 +36,7 @@ pub struct Published {
     pub index: u32,
 }
 
-/// A sample that can be published, and the place of its claim.
+/// A sample that can be published, or was, and the place of its claim.
 #[derive(Clone, Copy, Debug, PartialEq, Eq)]
 pub struct Ready {
     pub track: u32,

@@ -24,7 +24,7 @@ pub struct Slot {
     pub track: u32,
     pub index: u32,
     /// The place of its key in the list of generations.
-    pub entry: usize,
+    pub key_at: usize,
     pub generation: u64,
     pub key: KeyBytes,
     /// The clear bytes, once they were delivered.
@@ -41,15 +41,15 @@ pub struct Held {
     pub key: KeyBytes,
 }
 
-pub fn slot_with(held: Held, entry: usize, generation: u64) -> Slot
-    ensures { result ≡ slot_of held entry generation }
+pub fn slot_with(held: Held, key_at: usize, generation: u64) -> Slot
+    ensures { result ≡ slot_of held key_at generation }
 {
     Slot {
         place: held.place,
         worker: held.worker,
         track: held.track,
         index: held.index,
-        entry,
+        key_at,
         generation,
         key: held.key,
         clear: None,
@@ -79,7 +79,7 @@ fn is_held(slots: &[Slot], place: usize) -> bool
     ensures { result ≡ slot_stands_at slots.now place }
 {
     for slot in slots {
-        if slot.entry == place {
+        if slot.key_at == place {
             return true;
         }
     }
@@ -124,7 +124,7 @@ pub fn put_key(
 fn current(generations: &[Generation], slot: &Slot) -> bool
     ensures { result ≡ is_current generations.now slot.now }
 {
-    match generations.get(slot.entry) {
+    match generations.get(slot.key_at) {
         None => false,
         Some(known) => known.number == slot.generation,
     }
@@ -226,7 +226,11 @@ pub fn bump(generations: &mut Vec<Generation>, at: usize) -> bool
 fn ended_generation(slot: &Slot, at: usize) -> u64
     ensures { result ≡ generation_ended at slot.now }
 {
-    if slot.entry == at { 0 } else { slot.generation }
+    if slot.key_at == at {
+        0
+    } else {
+        slot.generation
+    }
 }
 
 /// The slots of a key are put behind its last generation.

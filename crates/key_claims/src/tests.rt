@@ -1,3 +1,4 @@
+// Claims, deliveries and publications by example.
 ghost use Rattle.std.specs.Prelude.{◌≡◌, ◌≢◌, ◌+◌, ◌≤◌, ◌<◌, [], IfOk, IsTrue, true, length};
 ghost use Rattle.eme_types.specs.WellFormed.{is_well_formed};
 ghost use Rattle.sample_crypt.specs.Decryption.{decryption};

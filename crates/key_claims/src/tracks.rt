@@ -1,5 +1,5 @@
 // The tracks of the media, and the calls that feed, claim and publish their samples.
-ghost use Rattle.std.specs.Prelude.{◌≡◌, ◌≤◌, ◌<◌, ◌+◌, [], ◌∷◌, ◌++◌, true, map, length, slice_get, slice_index_or, MatchOption, IfOk, OnOk, OnErr, IsErrOf, Some, None, IsTrue};
+ghost use Rattle.std.specs.Prelude.{◌≡◌, ◌≤◌, ◌<◌, ◌+◌, [], ◌∷◌, ◌++◌, true, map, length, slice_get, slice_index_or, MatchOption, IfOk, OnOk, OnErr, IsErrOf, Some, None, IsTrue, is_some};
 ghost use Rattle.std.specs.List.{filter};
 ghost use Rattle.eme_types.specs.Fed.{fragment_samples, are_distinct};
 ghost use Rattle.eme_types.specs.declared.limits.TheConstants.{MAX_SAMPLES};
@@ -9,8 +9,8 @@ ghost use Rattle.key_claims.specs.TracksState.{FedTrack, track_of};
 ghost use Rattle.key_claims.specs.TrackValue.{TrackValue, fed_track, resumed_value, left_of, all_left, all_fed};
 ghost use Rattle.key_claims.specs.Claims.{is_other, revoked};
 ghost use Rattle.key_claims.specs.Changes.{empty_fed, changed_at, more_out, with_waiting, feed_all, find_fed, outputs_of, waits, resumed_one};
-ghost use Rattle.key_claims.specs.Choice.{NoWork, NoneReady, NoneIs, has_clear_head, is_unkeyed, rests, AllRest, IsUnrested, IsNext};
-ghost use Rattle.key_claims.specs.Contract.{AreBelow, HoldsWork, Claims as Claimed, Delivers, IsReadyNow, Publishes, PassesClear, BeginsToWait, IsBusy};
+ghost use Rattle.key_claims.specs.Choice.{protect_at, NoWork, NoneReady, NoneIs, has_clear_head, is_unkeyed, rests, AllRest, IsUnrested, IsNext};
+ghost use Rattle.key_claims.specs.Contract.{AreBelow, HoldsWork, Claims as Claimed, Delivers, IsReadyNow, Publishes, PublishesReady, PassesClear, BeginsToWait, IsBusy};
 ghost use Rattle.key_claims.specs.Kept.{AreSound};
 ghost use Rattle.key_claims.specs.Fits.{MayDeliver};
 ghost use Rattle.sample_crypt.specs.Decryption.{decryption};
@@ -157,13 +157,30 @@ impl Tracks {
         ensures err { OnErr result (self.new ≡ self.old) }
         ensures not_ready { OnErr result (NoneReady self.old.claims self.old.tracks) }
     {
+        let ready = self.publish_ready()?;
+        Ok(Published {
+            track: ready.track,
+            index: ready.index,
+        })
+    }
+
+    /// As `publish`, and it tells the place of the claim too.
+    pub fn publish_ready(&mut self) -> Result<Ready, NotReady>
+        ensures ok { IfOk result (λ r. PublishesReady self.old r self.new) }
+        ensures err { OnErr result (self.new ≡ self.old) }
+        ensures not_ready { OnErr result (NoneReady self.old.claims self.old.tracks) }
+    {
         match find_ready(&self.claims, &self.tracks) {
             None => Err(NotReady),
             Some((at, place)) => {
                 let next = next_of(&self.tracks, at);
                 let clear = self.claims.take(place);
                 put_opened(&mut self.tracks, at, clear);
-                Ok(next)
+                Ok(Ready {
+                    track: next.track,
+                    index: next.index,
+                    place,
+                })
             }
         }
     }
@@ -267,19 +284,17 @@ fn hold_work(
     worker: u8,
     place: u64,
 ) -> Result<Claim, ClaimFault>
-    requires { length track.now.track.fed ≤ MAX_SAMPLES }
+    requires few { length track.now.track.fed ≤ MAX_SAMPLES }
+    requires protected { is_some (protect_at track.now.track.fed work.index) ≡ true }
     ensures ok { IfOk result (λ c. HoldsWork claims.old track.now.track work worker place c claims.new) }
     ensures err { OnErr result (claims.new ≡ claims.old) }
     ensures memory { IsErrOf result ClaimFault.NoWork → ⊥ }
 {
-    // A sample that can be claimed is fed and protected: the first two answers are never given.
-    let sample = match track.sample(work.index) {
-        None => return Err(ClaimFault::OutOfMemory),
-        Some(sample) => sample,
+    let Some(sample) = track.sample(work.index) else {
+        unreachable!()
     };
-    let protect = match &sample.protect {
-        None => return Err(ClaimFault::OutOfMemory),
-        Some(protect) => protect,
+    let Some(protect) = &sample.protect else {
+        unreachable!()
     };
     let copied = match sample.copy() {
         Err(_) => return Err(ClaimFault::OutOfMemory),

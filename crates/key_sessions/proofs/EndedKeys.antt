@@ -4,6 +4,7 @@ use Rattle.std.specs.Prelude.{not, ◌&&◌, if◌then◌else◌}
 use Rattle.std.specs.Str.{bytes_eq}
 use Rattle.std.proofs.lemmas.List.{append-nil, drop_all}
 use Rattle.std.proofs.lemmas.Slice.Eq.{bytes_eq-Decides}
+use Rattle.std.proofs.lemmas.Bool.{not-false}
 use Rattle.eme_types.specs.declared.kid.KeyBytes.{KeyBytes}
 use Rattle.key_statuses.specs.declared.table.KnownKey.{KnownKey}
 use Rattle.cdm_world.specs.In.{In}
@@ -25,10 +26,6 @@ same_is k (Some l) e = (let same = bytes_same k.bytes l.bytes e in let key : k �
 
 same_self : (k : KeyBytes) → same_key (Some k) (Some k) ≡ true
 same_self k = (bytes_eq-Decides k.bytes k.bytes).1 refl
-
-not_false : (b : Bool) → not b ≡ false → b ≡ true
-not_false true e = refl
-not_false false e = absurd cc
 
 -- a key that is gone was there, and is not there now
 gone_tells : (o p : Option KeyBytes) → is_gone o p ≡ true → (key : KeyBytes) × ((o ≡ Some key) × (p ≡ Some key → ⊥))
@@ -84,7 +81,7 @@ are_ended n old a new b once = record {
   where
     go : (kid : List ℕ) (key : KeyBytes) → key_if a old kid ≡ Some key → (t : Bool) → is_gone (key_if a old kid) (key_if b new kid) ≡ t → (key_if b new kid ≡ Some key) ⊎ In (map pair_of (ended_keys n old old a new b)) (n, kid)
     go kid key was true e = inr (to_list n old old a new b kid key (key_if_in a old kid key was) e)
-    go kid key was false e = inl (let h : not (same_key (Some key) (key_if b new kid)) ≡ false = rw was at e in sym (same_is key (key_if b new kid) (not_false (same_key (Some key) (key_if b new kid)) h)))
+    go kid key was false e = inl (let h : not (same_key (Some key) (key_if b new kid)) ≡ false = rw was at e in sym (same_is key (key_if b new kid) (not-false (same_key (Some key) (key_if b new kid)) h)))
 
 -- what a loop over the ids has found at its end
 pub ended_whole : (n : ℕ) (items old : List KnownKey) (a : Bool) (new : List KnownKey) (b : Bool) (i : ℕ) (list : List Lost) → length items ≤ i → items ≡ old → list ++ ended_keys n (drop i items) old a new b ≡ ended_keys n items old a new b → list ≡ ended_keys n old old a new b

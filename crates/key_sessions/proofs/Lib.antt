@@ -3,6 +3,7 @@ pub mod Reported
 pub mod Held
 pub mod EndedKeys
 pub mod LostKeys
+pub mod There
 pub mod Owed
 pub mod OwedSteps
 pub mod Planned

@@ -4,7 +4,7 @@ use Rattle.std.proofs.lemmas.List.{length-map, length-take-le, take_more, map-ap
 use Rattle.std.proofs.lemmas.Bool.Decides.{eqb_tells}
 use Rattle.eme_types.specs.declared.kid.KeyBytes.{KeyBytes}
 use Rattle.cdm_world.specs.In.{In}
-use Rattle.cdm_world.specs.Distinct.{Distinct}
+use Rattle.cdm_world.proofs.Members.{In_left, In_right, In_either, distinct_both}
 use Rattle.cdm_world.specs.Lost.{AreLost}
 use Rattle.key_sessions.specs.declared.session.Session.{Session}
 use Rattle.key_sessions.specs.SessionOf.{session_of}
@@ -55,30 +55,10 @@ lost_change moment ss n s f list at ended = record {
         let then : held_in moment ss n kid ≡ Some key = rw same was in
         rw (← same) (elim (ended.all kid key (sym (before kid) ∙ then)) [ inl still ↦ inl (after kid ∙ still) | inr there ↦ inr there ])
 
--- membership in two lists
-in_left : (xs ys : List (ℕ × List ℕ)) (x : ℕ × List ℕ) → In xs x → In (xs ++ ys) x
-in_left [] ys x there = absurd there
-in_left (y ∷ xs) ys x (inl e) = inl e
-in_left (y ∷ xs) ys x (inr there) = inr (in_left xs ys x there)
-
-in_right : (xs ys : List (ℕ × List ℕ)) (x : ℕ × List ℕ) → In ys x → In (xs ++ ys) x
-in_right [] ys x there = there
-in_right (y ∷ xs) ys x there = inr (in_right xs ys x there)
-
-in_either : (xs ys : List (ℕ × List ℕ)) (x : ℕ × List ℕ) → In (xs ++ ys) x → In xs x ⊎ In ys x
-in_either [] ys x there = inr there
-in_either (y ∷ xs) ys x (inl e) = inl (inl e)
-in_either (y ∷ xs) ys x (inr there) = elim (in_either xs ys x there) [ inl h ↦ inl (inr h) | inr h ↦ inr h ]
-
-distinct_both : (xs ys : List (ℕ × List ℕ)) → Distinct xs → Distinct ys → ((x : ℕ × List ℕ) → In xs x → In ys x → ⊥) → Distinct (xs ++ ys)
-distinct_both [] ys dx dy apart = dy
-distinct_both (x ∷ xs) ys dx dy apart =
-    (λ there. elim (in_either xs ys x there) [ inl h ↦ dx.0 h | inr h ↦ apart x (inl refl) h ], distinct_both xs ys dx.1 dy (λ y h k. apart y (inr h) k))
-
 -- what the time ends of one session more
 pub lost_more : (before after : ℕ) (ss : List SessionState) (s : SessionState) (xs ys : List (ℕ × List ℕ)) → LosesInTime before after ss xs → AreEnded (length ss + 1) (usable_key before s) (usable_key after s) ys → LosesInTime before after (ss ++ s ∷ []) (xs ++ ys)
 lost_more before after ss s xs ys lost ended = record {
-  each = λ l there. elim (in_either xs ys l there) [ inl h ↦ first l h | inr h ↦ last l h ];
+  each = λ l there. elim (In_either xs ys l there) [ inl h ↦ first l h | inr h ↦ last l h ];
   all = λ k kid key was. elim (eqb_tells (length ss + 1) k) [ inl e ↦ here k kid key e.1 was | inr e ↦ other k kid key (held_less before ss s k kid key e.1 was) ];
   once = distinct_both xs ys lost.once ended.once (λ l h k. apart l h k);
 }
@@ -97,10 +77,10 @@ lost_more before after ss s xs ys lost ended = record {
     here : (k : ℕ) (kid : List ℕ) (key : KeyBytes) → length ss + 1 ≡ k → held_in before (ss ++ s ∷ []) k kid ≡ Some key → (held_in after (ss ++ s ∷ []) k kid ≡ Some key) ⊎ In (xs ++ ys) (k, kid)
     here k kid key same was =
         let then : held_in before (ss ++ s ∷ []) (length ss + 1) kid ≡ Some key = rw same was in
-        rw (← same) (elim (ended.all kid key (sym (held_last before ss s kid) ∙ then)) [ inl still ↦ inl (held_last after ss s kid ∙ still) | inr there ↦ inr (in_right xs ys (length ss + 1, kid) there) ])
+        rw (← same) (elim (ended.all kid key (sym (held_last before ss s kid) ∙ then)) [ inl still ↦ inl (held_last after ss s kid ∙ still) | inr there ↦ inr (In_right xs ys (length ss + 1, kid) there) ])
 
     other : (k : ℕ) (kid : List ℕ) (key : KeyBytes) → held_in before ss k kid ≡ Some key → (held_in after (ss ++ s ∷ []) k kid ≡ Some key) ⊎ In (xs ++ ys) (k, kid)
-    other k kid key was = elim (lost.all k kid key was) [ inl still ↦ inl (held_more after ss s k kid key still) | inr there ↦ inr (in_left xs ys (k, kid) there) ]
+    other k kid key was = elim (lost.all k kid key was) [ inl still ↦ inl (held_more after ss s k kid key still) | inr there ↦ inr (In_left xs ys (k, kid) there) ]
 
     apart : (l : ℕ × List ℕ) → In xs l → In ys l → ⊥
     apart l h k =

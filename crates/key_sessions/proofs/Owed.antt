@@ -112,10 +112,3 @@ pending_some ps (suc i) n e lt = go (slice_get ps i) e where
   go None e = absurd (omega arith)
   go (Some None) e = refl
   go (Some (Some how)) e = absurd (omega arith)
-
--- the promise that was just made
-pub pending_last : (ps : List (Option Settled)) → IsPending (ps ++ None ∷ []) (length ps + 1)
-pending_last ps = rw add-one (go ps) where
-  go : (ps : List (Option Settled)) → slice_get (ps ++ None ∷ []) (length ps) ≡ Some None
-  go [] = refl
-  go (p ∷ ps) = go ps

@@ -1,5 +1,5 @@
 -- Calls, jobs and tasks keep what is owed, and their effects settle just what no longer is.
-use Rattle.std.proofs.Common.{◌≡◌, ℕ, ◌+◌, ◌<◌, ◌≤◌, Bool, true, false, List, [], ◌∷◌, ◌++◌, length, length-append, Option, Some, None, Result, Ok, Err, refl, sym, ◌∙◌, arith, append_assoc}
+use Rattle.std.proofs.Common.{◌≡◌, ℕ, ◌+◌, ◌<◌, ◌≤◌, Bool, true, false, List, [], ◌∷◌, ◌++◌, length, length-append, Option, Some, None, Result, Ok, Err, inl, refl, sym, ◌∙◌, arith, append_assoc}
 use Rattle.std.proofs.lemmas.List.{append-nil}
 use Rattle.clearkey_json.specs.Request.{request_text}
 use Rattle.eme_types.specs.declared.call.Event.{Event}
@@ -7,6 +7,7 @@ use Rattle.eme_types.specs.declared.call.Event.TheVariants.{KeyStatuses, Message
 use Rattle.std.specs.Prelude.{if◌then◌else◌, nat_lt, codes}
 use Rattle.std.specs.Str.{bytes_eq}
 use Rattle.std.proofs.lemmas.Bool.Decides.{Decides-ltb}
+use Rattle.eme_types.specs.declared.limits.TheConstants.{MAX_SESSIONS, MAX_SESSION_KIDS}
 use Rattle.eme_types.specs.declared.call.Settled.{Settled}
 use Rattle.eme_types.specs.declared.call.Settled.TheVariants.{Resolved, ResolvedFalse, Rejected}
 use Rattle.eme_types.specs.declared.call.DomError.{DomError}
@@ -37,28 +38,32 @@ use Rattle.key_sessions.specs.Calls.{access_result, answer_now, reject_now, answ
 use Rattle.key_sessions.specs.Jobs.{request_job, request_error, grant_set, with_set, is_changed_by, found, update_job, take_job, after_job, cleared, without_keys}
 use Rattle.key_sessions.specs.Tasks.{run_task, take_task, after_task, is_closed, request_done, next_id, reports_from, after_tick}
 use Rattle.key_sessions.proofs.SessionLists.{length-change_session}
+use Rattle.key_sessions.specs.Queued.{IsNumber, IsJobOf, AreThere}
 use Rattle.key_sessions.proofs.Held.{held_alike, held_more}
+use Rattle.key_sessions.proofs.There.{more_jobs, last_job, there_more, IsKnown, find_known}
 use Rattle.key_sessions.proofs.Owed.{one_same, times_one, times_more, jobs_more, tasks_more, pending_within, pending_done, pending_new, pending_settled, length-settle_in, reports_owe}
 
--- sessions that keep every usable key and stay at most 64
+-- sessions that keep every usable key, are no fewer, and stay at most 64
 record Keeps (ss ss' : List SessionState) : Type 0 where
   held : (moment n : ℕ) (kid : List ℕ) (key : KeyBytes) → held_in moment ss n kid ≡ Some key → held_in moment ss' n kid ≡ Some key
-  few : length ss ≤ 64 → length ss' ≤ 64
+  few : length ss ≤ MAX_SESSIONS → length ss' ≤ MAX_SESSIONS
+  more : length ss ≤ length ss'
 
 -- what a call does, and what it leaves
 pub record Called (m : Machine) (d : Done) : Type 0 where
   pub asked : Asked m d
   pub held : (n : ℕ) (kid : List ℕ) (key : KeyBytes) → held_key m n kid ≡ Some key → held_key d.machine n kid ≡ Some key
-  pub few : length m.sessions ≤ 64 → length d.machine.sessions ≤ 64
+  pub few : length m.sessions ≤ MAX_SESSIONS → length d.machine.sessions ≤ MAX_SESSIONS
+  pub there : AreThere m → AreThere d.machine
 
 as_were : (ss : List SessionState) → Keeps ss ss
-as_were ss = record { held = λ moment n kid key at. at; few = λ le. le }
+as_were ss = record { held = λ moment n kid key at. at; few = λ le. le; more = omega arith }
 
 changed_one : (ss : List SessionState) (n : ℕ) (f : SessionState → SessionState) → ((moment : ℕ) (s : SessionState) (kid : List ℕ) → usable_key moment (f s) kid ≡ usable_key moment s kid) → Keeps ss (change_session ss n f)
-changed_one ss n f same = record { held = λ moment k kid key at. held_alike moment ss n k f kid (λ s. same moment s kid) ∙ at; few = λ le. rw (length-change_session ss n f) le }
+changed_one ss n f same = record { held = λ moment k kid key at. held_alike moment ss n k f kid (λ s. same moment s kid) ∙ at; few = λ le. rw (length-change_session ss n f) le; more = rw (length-change_session ss n f) (omega arith) }
 
-one_more : (ss : List SessionState) (s : SessionState) → length ss < 64 → Keeps ss (ss ++ s ∷ [])
-one_more ss s lt = record { held = λ moment k kid key at. held_more moment ss s k kid key at; few = λ le. omega (arith, lt, length-append ss (s ∷ [])) }
+one_more : (ss : List SessionState) (s : SessionState) → length ss < MAX_SESSIONS → Keeps ss (ss ++ s ∷ [])
+one_more ss s lt = record { held = λ moment k kid key at. held_more moment ss s k kid key at; few = λ le. omega (arith, lt, length-append ss (s ∷ [])); more = omega (arith, length-append ss (s ∷ [])) }
 
 now : (m : Machine) (ss : List SessionState) (how : Settled) → Keeps m.sessions ss → Called m (answer_now how (record m { sessions = ss }))
 now m ss how keeps = record {
@@ -69,10 +74,11 @@ now m ss how keeps = record {
   };
   held = λ n kid key at. keeps.held m.moment n kid key at;
   few = keeps.few;
+  there = λ there. there_more m (answer_now how (record m { sessions = ss })).machine there keeps.more (λ job at. inl at) (λ task at. inl at);
 }
 
-later : (m : Machine) (ss : List SessionState) (job : ℕ → Job) → ((p q : ℕ) → job_owes p (job q) ≡ one_if q p) → Keeps m.sessions ss → Called m (answer_later job (record m { sessions = ss }))
-later m ss job names keeps = record {
+later : (m : Machine) (ss : List SessionState) (job : ℕ → Job) → ((p q : ℕ) → job_owes p (job q) ≡ one_if q p) → ((q : ℕ) → IsJobOf (length m.sessions) (job q)) → Keeps m.sessions ss → Called m (answer_later job (record m { sessions = ss }))
+later m ss job names of keeps = record {
   asked = record {
     owed = λ owed p. omega (arith, owed p, jobs_more p m.jobs (job (length m.promises + 1)), names p (length m.promises + 1), pending_new m.promises p);
     balance = λ p. omega (arith, pending_new m.promises p);
@@ -80,6 +86,7 @@ later m ss job names keeps = record {
   };
   held = λ n kid key at. keeps.held m.moment n kid key at;
   few = keeps.few;
+  there = λ there. there_more m (answer_later job (record m { sessions = ss })).machine there keeps.more (last_job (length ss) m.jobs (job (length m.promises + 1)) (more_jobs (length m.sessions) (length ss) (job (length m.promises + 1)) keeps.more (of (length m.promises + 1)))) (λ task at. inl at);
 }
 
 plain : (m : Machine) (how : Settled) → Called m (answer_now how m)
@@ -89,48 +96,51 @@ choose : (m : Machine) (b : Bool) (x y : Done) → Called m x → Called m y →
 choose m true x y p q = p
 choose m false x y p q = q
 
-called_added : (m : Machine) (label : List ℕ) (b : Bool) → nat_lt (length m.sessions) 64 ≡ b → Called m (if b then answer_now Resolved (add_session label m) else reject_now Quota m)
-called_added m label true e = now m (add_session label m).sessions Resolved (one_more m.sessions (new_session label) ((Decides-ltb (length m.sessions) 64).0 e))
+called_added : (m : Machine) (label : List ℕ) (b : Bool) → nat_lt (length m.sessions) MAX_SESSIONS ≡ b → Called m (if b then answer_now Resolved (add_session label m) else reject_now Quota m)
+called_added m label true e = now m (add_session label m).sessions Resolved (one_more m.sessions (new_session label) ((Decides-ltb (length m.sessions) MAX_SESSIONS).0 e))
 called_added m label false e = plain m (Rejected Quota)
 
 called_create : (m : Machine) (label kind : List ℕ) → Called m (create_call label kind m)
-called_create m label kind = choose m (bytes_eq kind (codes "temporary")) _ _ (called_added m label (nat_lt (length m.sessions) 64) refl) (plain m (Rejected NotSupported))
+called_create m label kind = choose m (bytes_eq kind (codes "temporary")) _ _ (called_added m label (nat_lt (length m.sessions) MAX_SESSIONS) refl) (plain m (Rejected NotSupported))
 
-called_started : (m : Machine) (ss : List SessionState) (n : ℕ) (init : List ℕ) (r : Result InitKind DomError) → Keeps m.sessions ss → Called m (request_started n init r (record m { sessions = ss }))
-called_started m ss n init (Err error) keeps = now m ss (Rejected error) keeps
-called_started m ss n init (Ok kind) keeps = later m ss (λ p. RequestJob n kind init p) (λ p q. refl) keeps
+called_started : (m : Machine) (ss : List SessionState) (n : ℕ) (init : List ℕ) (r : Result InitKind DomError) → IsNumber (length m.sessions) n → Keeps m.sessions ss → Called m (request_started n init r (record m { sessions = ss }))
+called_started m ss n init (Err error) of keeps = now m ss (Rejected error) keeps
+called_started m ss n init (Ok kind) of keeps = later m ss (λ p. RequestJob n kind init p) (λ p q. refl) (λ q. of) keeps
 
-called_request : (m : Machine) (kind init : List ℕ) (o : Option (ℕ × SessionState)) → Called m (request_on kind init m o)
-called_request m kind init None = plain m (Rejected UnknownLabel)
-called_request m kind init (Some (n, s)) = choose m (is_ending s) _ _ (plain m (Rejected InvalidState)) (choose m s.uninitialized _ _ (called_started m (change_session m.sessions n start_request) n init (request_kind kind init) (changed_one m.sessions n start_request (λ moment s kid. refl))) (plain m (Rejected InvalidState)))
+called_request : (m : Machine) (kind init : List ℕ) (o : Option (ℕ × SessionState)) → IsKnown (length m.sessions) o → Called m (request_on kind init m o)
+called_request m kind init None known = plain m (Rejected UnknownLabel)
+called_request m kind init (Some (n, s)) known = choose m (is_ending s) _ _ (plain m (Rejected InvalidState)) (choose m s.uninitialized _ _ (called_started m (change_session m.sessions n start_request) n init (request_kind kind init) known (changed_one m.sessions n start_request (λ moment s kid. refl))) (plain m (Rejected InvalidState)))
 
-called_update_or : (m : Machine) (n : ℕ) (response : List ℕ) (o : Option DomError) → Called m (update_or n response o m)
-called_update_or m n response (Some error) = plain m (Rejected error)
-called_update_or m n response None = later m m.sessions (λ p. UpdateJob n response p) (λ p q. refl) (as_were m.sessions)
+called_update_or : (m : Machine) (n : ℕ) (response : List ℕ) (o : Option DomError) → IsNumber (length m.sessions) n → Called m (update_or n response o m)
+called_update_or m n response (Some error) of = plain m (Rejected error)
+called_update_or m n response None of = later m m.sessions (λ p. UpdateJob n response p) (λ p q. refl) (λ q. of) (as_were m.sessions)
 
-called_update : (m : Machine) (response : List ℕ) (o : Option (ℕ × SessionState)) → Called m (update_on response m o)
-called_update m response None = plain m (Rejected UnknownLabel)
-called_update m response (Some (n, s)) = called_update_or m n response (or_empty (state_fault s) response)
+called_update : (m : Machine) (response : List ℕ) (o : Option (ℕ × SessionState)) → IsKnown (length m.sessions) o → Called m (update_on response m o)
+called_update m response None known = plain m (Rejected UnknownLabel)
+called_update m response (Some (n, s)) known = called_update_or m n response (or_empty (state_fault s) response) known
 
-called_close : (m : Machine) (o : Option (ℕ × SessionState)) → Called m (close_on m o)
-called_close m None = plain m (Rejected UnknownLabel)
-called_close m (Some (n, s)) = choose m (is_ending s) _ _ (plain m Resolved) (choose m s.callable _ _ (later m (change_session m.sessions n start_closing) (λ p. CloseJob n p) (λ p q. refl) (changed_one m.sessions n start_closing (λ moment s kid. refl))) (plain m (Rejected InvalidState)))
+called_close : (m : Machine) (o : Option (ℕ × SessionState)) → IsKnown (length m.sessions) o → Called m (close_on m o)
+called_close m None known = plain m (Rejected UnknownLabel)
+called_close m (Some (n, s)) known = choose m (is_ending s) _ _ (plain m Resolved) (choose m s.callable _ _ (later m (change_session m.sessions n start_closing) (λ p. CloseJob n p) (λ p q. refl) (λ q. known) (changed_one m.sessions n start_closing (λ moment s kid. refl))) (plain m (Rejected InvalidState)))
 
-called_remove_or : (m : Machine) (n : ℕ) (o : Option DomError) → Called m (remove_or n o m)
-called_remove_or m n (Some error) = plain m (Rejected error)
-called_remove_or m n None = later m m.sessions (λ p. RemoveJob n p) (λ p q. refl) (as_were m.sessions)
+called_remove_or : (m : Machine) (n : ℕ) (o : Option DomError) → IsNumber (length m.sessions) n → Called m (remove_or n o m)
+called_remove_or m n (Some error) of = plain m (Rejected error)
+called_remove_or m n None of = later m m.sessions (λ p. RemoveJob n p) (λ p q. refl) (λ q. of) (as_were m.sessions)
 
-called_remove : (m : Machine) (o : Option (ℕ × SessionState)) → Called m (remove_on m o)
-called_remove m None = plain m (Rejected UnknownLabel)
-called_remove m (Some (n, s)) = called_remove_or m n (state_fault s)
+called_remove : (m : Machine) (o : Option (ℕ × SessionState)) → IsKnown (length m.sessions) o → Called m (remove_on m o)
+called_remove m None known = plain m (Rejected UnknownLabel)
+called_remove m (Some (n, s)) known = called_remove_or m n (state_fault s) known
+
+known : (m : Machine) (label : List ℕ) → IsKnown (length m.sessions) (find_label m label)
+known m label = find_known (length m.sessions) 1 m.sessions label (omega arith) (omega arith)
 
 pub called : (m : Machine) (call : AppCall) → Called m (after_call call m)
 called m (Access name list) = plain m (access_result name (configs_of list))
 called m (Create label kind) = called_create m label kind
-called m (Request label kind init) = called_request m kind init (find_label m label)
-called m (Update label response) = called_update m response (find_label m label)
-called m (Close label) = called_close m (find_label m label)
-called m (Remove label) = called_remove m (find_label m label)
+called m (Request label kind init) = called_request m kind init (find_label m label) (known m label)
+called m (Update label response) = called_update m response (find_label m label) (known m label)
+called m (Close label) = called_close m (find_label m label) (known m label)
+called m (Remove label) = called_remove m (find_label m label) (known m label)
 called m (Certificate cert) = plain m ResolvedFalse
 
 pub asked_call : (m : Machine) (call : AppCall) → Asked m (after_call call m)
@@ -149,7 +159,7 @@ moved_request m n p kind init js (Ok kids) e owed = moved m m.sessions (RequestJ
 moved_request m n p kind init js (Err fault) e owed = moved m m.sessions (RequestJob n kind init p) js (Reject p (request_error fault)) e (λ q. refl) owed
 
 moved_grant : (m : Machine) (n p : ℕ) (response : List ℕ) (set : KeySet) (s : SessionState) (js : List Job) → m.jobs ≡ UpdateJob n response p ∷ js → IsOwed m → Steady m (unmoved (grant_set n p set s (record m { jobs = js })))
-moved_grant m n p response set s js e owed = go (nat_lt 256 (length (grant_all s.keys set.keys))) where
+moved_grant m n p response set s js e owed = go (nat_lt MAX_SESSION_KIDS (length (grant_all s.keys set.keys))) where
   go : (b : Bool) → Steady m (unmoved (if b then queue_task (Reject p Quota) (record m { jobs = js }) else queue_task (UpdateDone n (is_changed_by m.moment s (with_set set s)) p) (with_session n (with_set set) (record m { jobs = js }))))
   go true = moved m m.sessions (UpdateJob n response p) js (Reject p Quota) e (λ q. refl) owed
   go false = moved m (change_session m.sessions n (with_set set)) (UpdateJob n response p) js (UpdateDone n (is_changed_by m.moment s (with_set set s)) p) e (λ q. refl) owed

@@ -3,6 +3,7 @@ use Rattle.std.proofs.Common.{◌≡◌, ◌∙◌, ℕ, ◌+◌, ◌≤◌, Boo
 use Rattle.std.specs.Prelude.{nat_lt, Option}
 use Rattle.std.proofs.lemmas.Bool.{le-ltb}
 use Rattle.std.proofs.lemmas.List.{append-nil}
+use Rattle.eme_types.specs.declared.limits.TheConstants.{MAX_SESSION_KIDS}
 use Rattle.eme_types.specs.declared.call.Settled.{Settled}
 use Rattle.eme_types.specs.declared.call.Event.{Event}
 use Rattle.eme_types.specs.declared.call.AppCall.{AppCall}
@@ -30,6 +31,7 @@ use Rattle.key_sessions.specs.Calls.{after_call}
 use Rattle.key_sessions.specs.Jobs.{update_job, with_set, after_job}
 use Rattle.key_sessions.specs.Tasks.{after_task, reports_from}
 use Rattle.key_sessions.specs.Owed.{task_owes, jobs_owe, tasks_owe, pending, IsOwed, one_if}
+use Rattle.key_sessions.specs.Queued.{AreThere}
 use Rattle.key_sessions.specs.SessionsState.{SessionsState, HasStepped}
 use Rattle.key_sessions.specs.Kept.{KeptAs}
 use Rattle.key_sessions.specs.Losses.{LosesBy}
@@ -38,12 +40,13 @@ use Rattle.key_sessions.specs.Changes.{changed, changed_in}
 use Rattle.key_sessions.proofs.SessionLists.{change_alike, settle_last, length-change_session}
 use Rattle.key_sessions.proofs.LostKeys.{lost_none}
 use Rattle.key_sessions.proofs.Owed.{one_same, pending_some}
+use Rattle.key_sessions.proofs.There.{there_job, there_task, there_tick}
 use Rattle.key_sessions.proofs.OwedSteps.{called, steady_job, steady_front, steady_tick}
 
-pub grant_as : (m : Machine) (s : SessionState) (n p moment : ℕ) (set : KeySet) (t : TableState) (ch : Bool) → session_at m.sessions n ≡ Some s → m.moment ≡ moment → t.keys ≡ grant_all s.keys set.keys → length t.keys ≤ 256 → ch ≡ is_changed s.keys (held_status s.expiration moment) t.keys (held_status set.expires moment) → (let r : Machine = record m { sessions = change_session m.sessions n (changed (Keys t set.expires)); tasks = m.tasks ++ UpdateDone n ch p ∷ [] } in r) ≡ update_job n p (Ok set) m
+pub grant_as : (m : Machine) (s : SessionState) (n p moment : ℕ) (set : KeySet) (t : TableState) (ch : Bool) → session_at m.sessions n ≡ Some s → m.moment ≡ moment → t.keys ≡ grant_all s.keys set.keys → length t.keys ≤ MAX_SESSION_KIDS → ch ≡ is_changed s.keys (held_status s.expiration moment) t.keys (held_status set.expires moment) → (let r : Machine = record m { sessions = change_session m.sessions n (changed (Keys t set.expires)); tasks = m.tasks ++ UpdateDone n ch p ∷ [] } in r) ≡ update_job n p (Ok set) m
 grant_as m s n p moment set t ch at mo is few chs =
     let same : change_session m.sessions n (changed (Keys t set.expires)) ≡ change_session m.sessions n (with_set set) = change_alike m.sessions n s (changed (Keys t set.expires)) (with_set set) at (rw is refl) in
-    let short : nat_lt 256 (length (grant_all s.keys set.keys)) ≡ false = le-ltb 256 (length (grant_all s.keys set.keys)) (let l : length t.keys ≡ length (grant_all s.keys set.keys) = ap length is in omega (arith, l, few)) in
+    let short : nat_lt MAX_SESSION_KIDS (length (grant_all s.keys set.keys)) ≡ false = le-ltb MAX_SESSION_KIDS (length (grant_all s.keys set.keys)) (let l : length t.keys ≡ length (grant_all s.keys set.keys) = ap length is in omega (arith, l, few)) in
     rw (same, at, short, chs, is, mo) refl
 
 queued_append : (ts us : List Task) → queued_by ts us ≡ ts ++ us
@@ -96,23 +99,23 @@ pub kept_call : (m m' : Machine) (call : AppCall) (es : List Effect) (room spare
 kept_call m m' call es room spare kept e =
     let c = called m call in
     let same : m' ≡ (after_call call m).machine = ap (λ (d : Done). d.machine) e in
-    rw same (record { few = c.few kept.few; owed = c.asked.owed kept.owed; reserved = kept.reserved })
+    rw same (record { few = c.few kept.few; owed = c.asked.owed kept.owed; there = c.there kept.there; reserved = kept.reserved })
 
-kept_by : (m m' : Machine) (n : ℕ) (change : Option Change) (room spare spare' : ℕ) → KeptAs m room spare → m'.sessions ≡ changed_in m.sessions n change → IsOwed m' → room ≤ spare' → KeptAs m' room spare'
-kept_by m m' n change room spare spare' kept sis owed le = record { few = rw (sis, length_changed m.sessions n change) kept.few; owed = owed; reserved = le }
+kept_by : (m m' : Machine) (n : ℕ) (change : Option Change) (room spare spare' : ℕ) → KeptAs m room spare → m'.sessions ≡ changed_in m.sessions n change → IsOwed m' → AreThere m' → room ≤ spare' → KeptAs m' room spare'
+kept_by m m' n change room spare spare' kept sis owed there le = record { few = rw (sis, length_changed m.sessions n change) kept.few; owed = owed; there = there; reserved = le }
 
 pub kept_job : (m m' : Machine) (n : ℕ) (change : Option Change) (room spare spare' : ℕ) → KeptAs m room spare → m'.sessions ≡ changed_in m.sessions n change → (let d : Done = record { machine = m'; effects = [] } in d) ≡ after_job m → room ≤ spare' → KeptAs m' room spare'
 kept_job m m' n change room spare spare' kept sis e le =
     let same : m' ≡ (after_job m).machine = ap (λ (d : Done). d.machine) e in
-    kept_by m m' n change room spare spare' kept sis (subst IsOwed (sym same) (steady_job m kept.owed).owed) le
+    kept_by m m' n change room spare spare' kept sis (subst IsOwed (sym same) (steady_job m kept.owed).owed) (subst AreThere (sym same) (there_job m kept.there)) le
 
 pub kept_task : (m m' : Machine) (n : ℕ) (change : Option Change) (es : List Effect) (room spare spare' : ℕ) → KeptAs m room spare → m'.sessions ≡ changed_in m.sessions n change → (let d : Done = record { machine = m'; effects = es } in d) ≡ after_task m → room ≤ spare' → KeptAs m' room spare'
 kept_task m m' n change es room spare spare' kept sis e le =
     let same : m' ≡ (after_task m).machine = ap (λ (d : Done). d.machine) e in
-    kept_by m m' n change room spare spare' kept sis (subst IsOwed (sym same) (steady_front m kept.owed).owed) le
+    kept_by m m' n change room spare spare' kept sis (subst IsOwed (sym same) (steady_front m kept.owed).owed) (subst AreThere (sym same) (there_task m kept.there)) le
 
 pub kept_tick : (m : Machine) (moment : ℕ) (us : List Task) (room spare spare' : ℕ) → KeptAs m room spare → us ≡ m.tasks ++ reports_from m.moment moment 1 m.sessions → room ≤ spare' → KeptAs (record m { moment = moment; tasks = us }) room spare'
-kept_tick m moment us room spare spare' kept e le = record { few = kept.few; owed = rw e (steady_tick m moment kept.owed).owed; reserved = le }
+kept_tick m moment us room spare spare' kept e le = record { few = kept.few; owed = rw e (steady_tick m moment kept.owed).owed; there = rw e (there_tick m moment kept.there); reserved = le }
 
 -- what a step tells
 pub stepped_by : (old : SessionsState) (d : Done) (m' : Machine) (es : List Effect) (list : List (ℕ × List ℕ)) → (let r : Done = record { machine = m'; effects = es } in r) ≡ d → AreLost (held_key old.machine) (held_key m') list → HasStepped old (record { machine = m'; effects = es; lost = list; room = old.room }) d

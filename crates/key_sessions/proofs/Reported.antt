@@ -7,7 +7,7 @@ use Rattle.eme_types.specs.declared.call.Event.TheVariants.{KeyStatuses}
 use Rattle.eme_types.specs.declared.call.Settled.TheVariants.{Resolved}
 use Rattle.task_queue.specs.declared.work.Task.{Task}
 use Rattle.task_queue.specs.declared.work.Task.TheVariants.{Fire, Resume}
-use Rattle.key_sessions.specs.declared.change.Change.TheVariants.{Reported, Over}
+use Rattle.key_sessions.specs.declared.change.Change.TheVariants.{Reported, Closed}
 use Rattle.key_statuses.specs.Statuses.{statuses, held_status}
 use Rattle.key_sessions.specs.Machine.{SessionState, Machine, session_at, change_session}
 use Rattle.key_sessions.specs.Steps.{Done, unmoved, settle, statuses_now, report_of, update_statuses, close_session}
@@ -29,9 +29,9 @@ reported_as m s n moment list tasks effects at mo is ts es =
     let e : effects ≡ report_of n m.moment (session_at m.sessions n) = es ∙ told m s n moment list at mo is in
     rw (same, q, e) refl
 
-pub closed_as : (m : Machine) (s : SessionState) (n p moment : ℕ) (list : List (List ℕ × Status)) (tasks : List Task) (effects : List Effect) → session_at m.sessions n ≡ Some s → m.moment ≡ moment → list ≡ statuses s.keys (held_status s.expiration moment) → tasks ≡ Fire (KeyStatuses n) ∷ (Resume ∷ []) → effects ≡ Statuses n list ∷ (Closed n ∷ (Promise p Resolved ∷ [])) → (let d : Done = record { machine = record m { sessions = change_session m.sessions n (changed (Over list)); tasks = queued_by m.tasks tasks; promises = settle_in m.promises p Resolved }; effects = effects } in d) ≡ settle p Resolved (close_session n (update_statuses n (unmoved m)))
+pub closed_as : (m : Machine) (s : SessionState) (n p moment : ℕ) (list : List (List ℕ × Status)) (tasks : List Task) (effects : List Effect) → session_at m.sessions n ≡ Some s → m.moment ≡ moment → list ≡ statuses s.keys (held_status s.expiration moment) → tasks ≡ Fire (KeyStatuses n) ∷ (Resume ∷ []) → effects ≡ Statuses n list ∷ (Closed n ∷ (Promise p Resolved ∷ [])) → (let d : Done = record { machine = record m { sessions = change_session m.sessions n (changed (Closed list)); tasks = queued_by m.tasks tasks; promises = settle_in m.promises p Resolved }; effects = effects } in d) ≡ settle p Resolved (close_session n (update_statuses n (unmoved m)))
 closed_as m s n p moment list tasks effects at mo is ts es =
-    let one : change_session m.sessions n (changed (Over list)) ≡ change_session m.sessions n (λ x. record (statuses_now m.moment x) { closed = true }) = change_alike m.sessions n s (changed (Over list)) (λ x. record (statuses_now m.moment x) { closed = true }) at (rw (is, mo) refl) in
+    let one : change_session m.sessions n (changed (Closed list)) ≡ change_session m.sessions n (λ x. record (statuses_now m.moment x) { closed = true }) = change_alike m.sessions n s (changed (Closed list)) (λ x. record (statuses_now m.moment x) { closed = true }) at (rw (is, mo) refl) in
     let same = one ∙ sym (change_twice m.sessions n (statuses_now m.moment) (λ x. record x { closed = true })) in
     let q = two_tasks m.tasks n tasks ts in
     let e : effects ≡ (report_of n m.moment (session_at m.sessions n) ++ Closed n ∷ []) ++ Promise p Resolved ∷ [] = rw (es, at, mo, is) refl in

@@ -11,10 +11,6 @@ use Rattle.key_sessions.specs.Machine.{SessionState, change_at, change_session, 
 use Rattle.key_sessions.specs.Calls.{find_from}
 use Rattle.key_sessions.specs.Loops.{Unlabelled}
 
--- a number above 0 is one above a place
-pub number_place : (n : ℕ) → (n ≡ 0 → ⊥) → n ≡ suc (n - 1)
-number_place n ne = omega arith
-
 -- a change in the list of records is a change in the list of states
 map-set : (xs : List Session) (i : ℕ) (d v : Session) (f : SessionState → SessionState) → session_of v ≡ f (session_of (get_or xs i d)) → map session_of (set xs i v) ≡ change_at (map session_of xs) i f
 map-set [] i d v f e = refl

@@ -1,6 +1,7 @@
 -- What a call of the application does at once (Encrypted Media Extensions sections 3 to 6).
 use Rattle.std.specs.Prelude.{ℕ, ◌+◌, ◌||◌, nat_lt, Bool, true, false, if◌then◌else◌, List, [], ◌∷◌, ◌++◌, length, Option, Some, None, Result, Ok, Err, codes}
 use Rattle.std.specs.Str.{bytes_eq}
+use Rattle.eme_types.specs.declared.limits.TheConstants.{MAX_SESSIONS}
 use Rattle.eme_types.specs.declared.media.InitKind.{InitKind}
 use Rattle.eme_types.specs.declared.media.InitKind.TheVariants.{Cenc, Keyids}
 use Rattle.eme_types.specs.declared.access.Config.{Config}
@@ -25,6 +26,7 @@ abbrev pub find_from : ℕ → List SessionState → List ℕ → Option (ℕ ×
 find_from n [] label = None
 find_from n (s ∷ more) label = if bytes_eq s.label label then Some (n, s) else find_from (n + 1) more label
 
+-- the first session that was created with the label, with its number
 abbrev pub find_label : Machine → List ℕ → Option (ℕ × SessionState)
 find_label m label = find_from 1 m.sessions label
 
@@ -36,6 +38,7 @@ next_promise m = length m.promises + 1
 abbrev pub answer_now : Settled → Machine → Done
 answer_now how m = record { machine = record m { promises = m.promises ++ Some how ∷ [] }; effects = Promise (next_promise m) how ∷ [] }
 
+-- the new promise is rejected in this same entry
 abbrev pub reject_now : DomError → Machine → Done
 reject_now error m = answer_now (Rejected error) m
 
@@ -43,6 +46,7 @@ reject_now error m = answer_now (Rejected error) m
 abbrev pub answer_later : (ℕ → Job) → Machine → Done
 answer_later job m = unmoved (record m { promises = m.promises ++ None ∷ []; jobs = m.jobs ++ job (next_promise m) ∷ [] })
 
+-- one more session, the last
 abbrev pub add_session : List ℕ → Machine → Machine
 add_session label m = record m { sessions = m.sessions ++ new_session label ∷ [] }
 
@@ -50,13 +54,14 @@ add_session label m = record m { sessions = m.sessions ++ new_session label ∷ 
 abbrev pub create_call : List ℕ → List ℕ → Machine → Done
 create_call label kind m =
     if bytes_eq kind (codes "temporary")
-    then (if nat_lt (length m.sessions) 64 then answer_now Resolved (add_session label m) else reject_now Quota m)
+    then (if nat_lt (length m.sessions) MAX_SESSIONS then answer_now Resolved (add_session label m) else reject_now Quota m)
     else reject_now NotSupported m
 
 -- closing or closed
 abbrev pub is_ending : SessionState → Bool
 is_ending s = s.closing || s.closed
 
+-- the text has no byte
 abbrev pub is_empty : List ℕ → Bool
 is_empty [] = true
 is_empty (b ∷ more) = false
@@ -69,10 +74,12 @@ init_kind kind = if bytes_eq kind (codes "cenc") then Ok Cenc else (if bytes_eq 
 abbrev pub request_kind : List ℕ → List ℕ → Result InitKind DomError
 request_kind kind init = if is_empty kind then Err TypeFault else (if is_empty init then Err TypeFault else init_kind kind)
 
+-- the request is refused for its type or its data, or waits for its job
 abbrev pub request_started : ℕ → List ℕ → Result InitKind DomError → Machine → Done
 request_started n init (Err error) m = reject_now error m
 request_started n init (Ok kind) m = answer_later (λ p. RequestJob n kind init p) m
 
+-- the session is no longer uninitialized
 abbrev pub start_request : SessionState → SessionState
 start_request s = record s { uninitialized = false }
 
@@ -87,10 +94,12 @@ request_on kind init m (Some (n, s)) =
 abbrev pub state_fault : SessionState → Option DomError
 state_fault s = if is_ending s then Some InvalidState else (if s.callable then None else Some InvalidState)
 
+-- why an update is refused: by the state of its session, or since the response is empty
 abbrev pub or_empty : Option DomError → List ℕ → Option DomError
 or_empty None response = if is_empty response then Some TypeFault else None
 or_empty (Some error) response = Some error
 
+-- the update is refused, or waits for its job
 abbrev pub update_or : ℕ → List ℕ → Option DomError → Machine → Done
 update_or n response (Some error) m = reject_now error m
 update_or n response None m = answer_later (λ p. UpdateJob n response p) m
@@ -100,6 +109,7 @@ abbrev pub update_on : List ℕ → Machine → Option (ℕ × SessionState) →
 update_on response m None = reject_now UnknownLabel m
 update_on response m (Some (n, s)) = update_or n response (or_empty (state_fault s) response) m
 
+-- the end of the session was asked for
 abbrev pub start_closing : SessionState → SessionState
 start_closing s = record s { closing = true }
 
@@ -110,6 +120,7 @@ close_on m (Some (n, s)) =
     if is_ending s then answer_now Resolved m
     else (if s.callable then answer_later (λ p. CloseJob n p) (with_session n start_closing m) else reject_now InvalidState m)
 
+-- the removal is refused, or waits for its job
 abbrev pub remove_or : ℕ → Option DomError → Machine → Done
 remove_or n (Some error) m = reject_now error m
 remove_or n None m = answer_later (λ p. RemoveJob n p) m
@@ -129,6 +140,7 @@ abbrev pub access_result : List ℕ → Result (List Config) ConfigFault → Set
 access_result name (Ok configs) = access_settled (access name configs)
 access_result name (Err fault) = Rejected TypeFault
 
+-- requestMediaKeySystemAccess: the promise is settled at once
 abbrev pub access_call : List ℕ → List ℕ → Machine → Done
 access_call name list m = answer_now (access_result name (configs_of list)) m
 

@@ -1,7 +1,7 @@
 -- What a step changes of a session.
 use Rattle.std.specs.Prelude.{ℕ, ◌+◌, ◌<◌, ◌≡◌, true, map, List, length, slice_index_or, Option, Some, None}
 use Rattle.key_sessions.specs.declared.change.Change.{Change}
-use Rattle.key_sessions.specs.declared.change.Change.TheVariants.{Started, Callable, Closing, Keys, Released, Reported, Over}
+use Rattle.key_sessions.specs.declared.change.Change.TheVariants.{Started, Callable, Closing, Keys, Released, Reported, Closed}
 use Rattle.key_sessions.specs.declared.session.Session.{Session}
 use Rattle.key_sessions.specs.Machine.{SessionState, change_session}
 use Rattle.key_sessions.specs.Calls.{find_from, start_request, start_closing}
@@ -9,6 +9,7 @@ use Rattle.key_sessions.specs.Jobs.{without_keys}
 use Rattle.key_sessions.specs.Tasks.{made_callable}
 use Rattle.key_sessions.specs.SessionOf.{session_of}
 
+-- a session after a change
 abbrev pub changed : Change → SessionState → SessionState
 changed Started s = start_request s
 changed (Callable id) s = made_callable id s
@@ -16,8 +17,9 @@ changed Closing s = start_closing s
 changed (Keys table expiration) s = record s { keys = table.keys; expiration = expiration }
 changed Released s = without_keys s
 changed (Reported list) s = record s { reported = list }
-changed (Over list) s = record s { reported = list; closed = true }
+changed (Closed list) s = record s { reported = list; closed = true }
 
+-- the sessions after a change of the one with the number, if any is wanted
 abbrev pub changed_in : List SessionState → ℕ → Option Change → List SessionState
 changed_in sessions n None = sessions
 changed_in sessions n (Some change) = change_session sessions n (changed change)

@@ -1,5 +1,6 @@
 -- What the front job does: the parallel part of a session algorithm (Encrypted Media Extensions section 6).
 use Rattle.std.specs.Prelude.{ℕ, if◌then◌else◌, nat_lt, Bool, List, [], ◌∷◌, map, length, Option, Some, None, Result, Ok, Err}
+use Rattle.eme_types.specs.declared.limits.TheConstants.{MAX_SESSION_KIDS}
 use Rattle.eme_types.specs.declared.call.DomError.{DomError}
 use Rattle.eme_types.specs.declared.call.DomError.TheVariants.{TypeFault, NotSupported, Quota}
 use Rattle.clearkey_json.specs.declared.key_set.KeySet.{KeySet}
@@ -22,6 +23,7 @@ request_error Invalid = TypeFault
 request_error NoKids = NotSupported
 request_error OutOfMemory = TypeFault
 
+-- generateRequest: the request that the data names is queued, or its refusal
 abbrev pub request_job : ℕ → ℕ → Result (List (List ℕ)) InitFault → Machine → Machine
 request_job n p (Ok kids) m = queue_task (RequestDone n kids p) m
 request_job n p (Err fault) m = queue_task (Reject p (request_error fault)) m
@@ -42,19 +44,23 @@ found (Some s) = s
 -- a session may know 256 key ids
 abbrev pub grant_set : ℕ → ℕ → KeySet → SessionState → Machine → Machine
 grant_set n p set s m =
-    if nat_lt 256 (length (grant_all s.keys set.keys)) then queue_task (Reject p Quota) m
+    if nat_lt MAX_SESSION_KIDS (length (grant_all s.keys set.keys)) then queue_task (Reject p Quota) m
     else queue_task (UpdateDone n (is_changed_by m.moment s (with_set set s)) p) (with_session n (with_set set) m)
 
+-- update: the keys of the set are granted, or the text is refused
 abbrev pub update_job : ℕ → ℕ → Result KeySet KeySetFault → Machine → Machine
 update_job n p (Ok set) m = grant_set n p set (found (session_at m.sessions n)) m
 update_job n p (Err fault) m = queue_task (Reject p TypeFault) m
 
+-- the session has no key and no expiration
 abbrev pub cleared : SessionState → SessionState
 cleared s = record s { keys = []; expiration = None }
 
+-- the session's ids stay known and released, and it has no expiration
 abbrev pub without_keys : SessionState → SessionState
 without_keys s = record s { keys = map released s.keys; expiration = None }
 
+-- what a job does
 abbrev pub run_job : Job → Machine → Machine
 run_job (Request n kind init p) m = request_job n p (kids_of kind init) m
 run_job (Update n response p) m = update_job n p (key_set response) m

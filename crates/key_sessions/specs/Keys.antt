@@ -9,6 +9,7 @@ use Rattle.key_sessions.specs.Machine.{SessionState, Machine, session_at}
 abbrev pub usable_key : ℕ → SessionState → List ℕ → Option KeyBytes
 usable_key moment s kid = if s.closed then None else (if is_usable (held_status s.expiration moment) then key_in s.keys kid else None)
 
+-- the key that the session holds usable at a moment, if it is there
 abbrev pub key_of : ℕ → Option SessionState → List ℕ → Option KeyBytes
 key_of moment None kid = None
 key_of moment (Some s) kid = usable_key moment s kid
@@ -21,6 +22,7 @@ held_in moment sessions n kid = key_of moment (session_at sessions n) kid
 abbrev pub held_key : Machine → ℕ → List ℕ → Option KeyBytes
 held_key m n kid = held_in m.moment m.sessions n kid
 
+-- the key with the session's number, or what the sessions behind it hold
 abbrev pub or_else : Option KeyBytes → ℕ → Option (ℕ × KeyBytes) → Option (ℕ × KeyBytes)
 or_else None n rest = rest
 or_else (Some key) n rest = Some (n, key)
@@ -30,5 +32,6 @@ abbrev pub pick_from : ℕ → ℕ → List SessionState → List ℕ → Option
 pick_from moment n [] kid = None
 pick_from moment n (s ∷ more) kid = or_else (usable_key moment s kid) n (pick_from moment (n + 1) more kid)
 
+-- the pick for a key id: the first session that holds it usable now, and its key
 abbrev pub pick : Machine → List ℕ → Option (ℕ × KeyBytes)
 pick m kid = pick_from m.moment 1 m.sessions kid

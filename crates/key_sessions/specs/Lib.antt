@@ -6,6 +6,7 @@ pub mod Jobs
 pub mod Tasks
 pub mod World
 pub mod Owed
+pub mod Queued
 pub mod Law
 pub mod SessionsState
 pub mod Loops

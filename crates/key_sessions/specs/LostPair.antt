@@ -2,5 +2,6 @@
 use Rattle.std.specs.Prelude.{ℕ, List}
 use Rattle.key_sessions.specs.declared.lost.Lost.{Lost}
 
+-- the session and the key id
 abbrev pub pair_of : Lost → ℕ × List ℕ
 pair_of l = (l.session, l.kid)

@@ -7,6 +7,7 @@ use Rattle.key_statuses.specs.declared.table.KnownKey.{KnownKey}
 use Rattle.task_queue.specs.declared.work.Job.{Job}
 use Rattle.task_queue.specs.declared.work.Task.{Task}
 
+-- a session (Encrypted Media Extensions section 6): its label and id, how far it is in its life, its keys with their expiration, and the statuses that were told
 pub record SessionState : Type 0 where
   pub label : List ℕ
   pub id : Option ℕ

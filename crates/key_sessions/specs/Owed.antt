@@ -10,6 +10,7 @@ use Rattle.task_queue.specs.declared.work.Task.TheVariants.{Reject, RequestDone,
 use Rattle.key_sessions.specs.Machine.{Machine}
 use Rattle.key_sessions.specs.Steps.{Done}
 
+-- 1 where the numbers are the same, else 0
 abbrev pub one_if : ℕ → ℕ → ℕ
 one_if q p = if q == p then 1 else 0
 
@@ -20,6 +21,7 @@ job_owes p (Update n response q) = one_if q p
 job_owes p (Close n q) = one_if q p
 job_owes p (Remove n q) = one_if q p
 
+-- how often a task names the promise
 abbrev pub task_owes : ℕ → Task → ℕ
 task_owes p (Reject q error) = one_if q p
 task_owes p (RequestDone n kids q) = one_if q p
@@ -30,14 +32,17 @@ task_owes p (Report n) = 0
 task_owes p (Fire event) = 0
 task_owes p Resume = 0
 
+-- how often the jobs name the promise
 abbrev pub jobs_owe : ℕ → List Job → ℕ
 jobs_owe p [] = 0
 jobs_owe p (job ∷ jobs) = job_owes p job + jobs_owe p jobs
 
+-- how often the tasks name the promise
 abbrev pub tasks_owe : ℕ → List Task → ℕ
 tasks_owe p [] = 0
 tasks_owe p (task ∷ tasks) = task_owes p task + tasks_owe p tasks
 
+-- 1 where the promise is there and pending, else 0
 abbrev pub pending_here : Option (Option Settled) → ℕ
 pending_here None = 0
 pending_here (Some None) = 1
@@ -52,6 +57,7 @@ pending ps (suc i) = pending_here (slice_get ps i)
 abbrev pub IsOwed : Machine → Type 0
 IsOwed m = (p : ℕ) → jobs_owe p m.jobs + tasks_owe p m.tasks ≡ pending m.promises p
 
+-- the effect settles the promise
 abbrev pub settles : ℕ → Effect → Bool
 settles p (Statuses n list) = false
 settles p (Closed n) = false

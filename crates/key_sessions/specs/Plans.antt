@@ -24,6 +24,7 @@ use Rattle.key_sessions.specs.Jobs.{run_job}
 use Rattle.key_sessions.specs.Tasks.{run_task}
 use Rattle.key_sessions.specs.Changes.{changed_in}
 
+-- the sessions with the one that a call creates, if it does
 abbrev pub created_in : List SessionState → Option Session → List SessionState
 created_in ss None = ss
 created_in ss (Some s) = ss ++ session_of s ∷ []
@@ -33,6 +34,7 @@ abbrev pub answered : Answer → Machine → Done
 answered (Now how) m = answer_now how m
 answered (Later job) m = unmoved (record m { promises = m.promises ++ None ∷ []; jobs = m.jobs ++ job ∷ [] })
 
+-- what a planned call does
 abbrev pub call_done : CallPlan → Machine → Done
 call_done plan m = answered plan.answer (record m { sessions = changed_in (created_in m.sessions plan.created) plan.session plan.change })
 
@@ -50,10 +52,12 @@ abbrev pub promises_by : List (Option Settled) → ℕ → Answer → List (Opti
 promises_by ps p (Now how) = settle_in ps p how
 promises_by ps p (Later job) = ps
 
+-- the jobs with that of an answer that is given later
 abbrev pub jobs_by : List Job → Answer → List Job
 jobs_by jobs (Now how) = jobs
 jobs_by jobs (Later job) = jobs ++ job ∷ []
 
+-- what a planned job does
 abbrev pub job_done : JobPlan → Machine → Machine
 job_done plan m = record m { sessions = changed_in m.sessions plan.session plan.change; tasks = m.tasks ++ plan.task ∷ [] }
 
@@ -77,10 +81,12 @@ abbrev pub MaySettle : List (Option Settled) → Option (ℕ × Settled) → Typ
 MaySettle promises None = Unit {0}
 MaySettle promises (Some (p, how)) = IsPending promises p
 
+-- the promises, with the one settled that a task settles
 abbrev pub settled_by : List (Option Settled) → Option (ℕ × Settled) → List (Option Settled)
 settled_by promises None = promises
 settled_by promises (Some (p, how)) = settle_in promises p how
 
+-- the fired events, with the one that a task fires
 abbrev pub fired_by : List Event → Option Event → List Event
 fired_by fired None = fired
 fired_by fired (Some event) = fired ++ event ∷ []
@@ -90,6 +96,7 @@ abbrev pub queued_by : List Task → List Task → List Task
 queued_by tasks [] = tasks
 queued_by tasks (task ∷ more) = queued_by (tasks ++ task ∷ []) more
 
+-- what a planned task does
 abbrev pub task_done : TaskPlan → Machine → Done
 task_done plan m = record {
   machine = record m {

@@ -13,6 +13,7 @@ use Rattle.key_sessions.specs.Steps.{Done, unmoved, queue_task, with_session, se
 abbrev pub next_id : Machine → ℕ
 next_id m = count_by (λ s. is_some s.id) m.sessions + 1
 
+-- the session gets its id and can be called
 abbrev pub made_callable : ℕ → SessionState → SessionState
 made_callable id s = record s { id = Some id; callable = true }
 
@@ -20,10 +21,12 @@ made_callable id s = record s { id = Some id; callable = true }
 abbrev pub request_done : ℕ → List (List ℕ) → Machine → Machine
 request_done n kids m = queue_task (Fire (Message n (next_id m) (request_text kids))) (with_session n (made_callable (next_id m)) m)
 
+-- the session is closed, or there is none
 abbrev pub is_closed : Option SessionState → Bool
 is_closed None = true
 is_closed (Some s) = s.closed
 
+-- what a task does
 abbrev pub run_task : Task → Machine → Done
 run_task (Reject p error) m = settle p (Rejected error) (unmoved m)
 run_task (RequestDone n kids p) m = settle p Resolved (unmoved (request_done n kids m))
@@ -39,6 +42,7 @@ abbrev pub take_task : List Task → Machine → Done
 take_task [] m = unmoved m
 take_task (task ∷ tasks) m = run_task task (record m { tasks = tasks })
 
+-- what the front task does
 abbrev pub after_task : Machine → Done
 after_task m = take_task m.tasks m
 
@@ -46,6 +50,7 @@ after_task m = take_task m.tasks m
 abbrev pub is_reported : ℕ → ℕ → SessionState → Bool
 is_reported old new s = not s.closed && not (same_statuses (statuses s.keys (held_status s.expiration old)) (statuses s.keys (held_status s.expiration new)))
 
+-- the reports of these sessions, numbered from n, as the time goes from the old moment to the new
 abbrev pub reports_from : ℕ → ℕ → ℕ → List SessionState → List Task
 reports_from old new n [] = []
 reports_from old new n (s ∷ more) = if is_reported old new s then Report n ∷ reports_from old new (n + 1) more else reports_from old new (n + 1) more

@@ -9,10 +9,12 @@ use Rattle.key_sessions.specs.Steps.{Done}
 use Rattle.key_sessions.specs.Tasks.{after_task}
 use Rattle.cdm_world.specs.Tracks.{TrackState, empty_track, resumed}
 
+-- the state of the sessions and of the tracks
 pub record World : Type 0 where
   pub machine : Machine
   pub tracks : List TrackState
 
+-- no session, and tracks with these ids and without a sample
 abbrev pub empty_world : List ℕ → World
 empty_world ids = record { machine = empty_machine; tracks = map empty_track ids }
 
@@ -25,9 +27,11 @@ pub record Stepped : Type 0 where
 abbrev pub acted : World → Done → Stepped
 acted w d = record { world = record w { machine = d.machine }; effects = d.effects }
 
+-- the world without an effect
 abbrev pub unseen : World → Stepped
 unseen w = record { world = w; effects = [] }
 
+-- the task is `Resume`
 abbrev pub is_resume : Queued → Bool
 is_resume (Reject p error) = false
 is_resume (RequestDone n kids p) = false
@@ -38,6 +42,7 @@ is_resume (Report n) = false
 is_resume (Fire event) = false
 is_resume Resume = true
 
+-- the front task is `Resume`
 abbrev pub resumes : List Queued → Bool
 resumes [] = false
 resumes (task ∷ tasks) = is_resume task

@@ -1,5 +1,6 @@
 // What a call of the application will do, with all memory that it takes.
 ghost use Rattle.std.specs.Prelude.{◌≡◌, ◌≤◌, ◌<◌, map, length, Some, IfOk, vec_len, vec_capacity};
+ghost use Rattle.eme_types.specs.declared.limits.TheConstants.{MAX_SESSIONS};
 ghost use Rattle.key_sessions.specs.SessionOf.{session_of};
 ghost use Rattle.key_sessions.specs.Machine.{Machine};
 ghost use Rattle.key_sessions.specs.Calls.{next_promise, answer_now, reject_now, access_call, create_call, request_kind as kind_of, request_started, request_on, update_on, close_on, remove_on};
@@ -9,7 +10,9 @@ ghost use Rattle.task_queue.specs.Pending.{IsPending};
 use crate::access::negotiate;
 use crate::change::Change;
 use crate::session::{Session, ends, find_label, labelled, state_fault, update_fault};
-use eme_types::{AppCall, Bytes, Copies, DomError, Effect, Effects, InitKind, Settled};
+use eme_types::{
+    AppCall, Bytes, Copies, DomError, Effect, Effects, InitKind, MAX_SESSIONS, Settled,
+};
 use std::alloc::{AllocError, Global};
 use task_queue::{Job, Promises, Queue};
 
@@ -66,7 +69,7 @@ fn ask_create(
     if kind != b"temporary".as_slice() {
         return Ok(reject(DomError::NotSupported));
     }
-    if sessions.len() >= 64 {
+    if sessions.len() >= MAX_SESSIONS {
         return Ok(reject(DomError::Quota));
     }
     let session = labelled(alloc, label)?;
@@ -209,7 +212,7 @@ pub fn plan_call(
     sessions: &[Session],
     promise: u64,
 ) -> Result<CallPlan, AllocError>
-    requires { length sessions.now ≤ 64 }
+    requires { length sessions.now ≤ MAX_SESSIONS }
     ensures { IfOk result (IsCallPlan call.now (map session_of sessions.now) promise) }
 {
     match call {

@@ -30,7 +30,7 @@ pub enum Change {
         list: StatusList,
     },
     /// Its reported statuses are replaced, and it is closed.
-    Over {
+    Closed {
         list: StatusList,
     },
 }
@@ -54,7 +54,7 @@ fn change_one(session: &mut Session, change: Change)
             session.expiration = None;
         }
         Change::Reported { list } => session.reported = list,
-        Change::Over { list } => {
+        Change::Closed { list } => {
             session.reported = list;
             session.closed = true;
         }

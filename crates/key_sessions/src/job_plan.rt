@@ -1,5 +1,5 @@
 // What a job will do, with all memory that it takes.
-ghost use Rattle.std.specs.Prelude.{◌≡◌, map, Some, Ok, IfOk};
+ghost use Rattle.std.specs.Prelude.{◌≡◌, map, length, Some, Ok, IfOk};
 ghost use Rattle.clearkey_json.specs.KeySet.{key_set as set_of};
 ghost use Rattle.init_data.specs.InitData.{kids_of as kids_in};
 ghost use Rattle.task_queue.specs.declared.work.Task.TheVariants.{Reject};
@@ -10,11 +10,12 @@ ghost use Rattle.key_sessions.specs.Machine.{Machine, session_at};
 ghost use Rattle.key_sessions.specs.Steps.{queue_task};
 ghost use Rattle.key_sessions.specs.Jobs.{request_job, update_job};
 ghost use Rattle.key_sessions.specs.Plans.{IsJobPlan, job_done};
+ghost use Rattle.key_sessions.specs.Queued.{IsNumber, IsJobOf};
 
 use crate::change::Change;
-use crate::session::{Session, find_number};
+use crate::session::{Session, numbered};
 use clearkey_json::{KeySet, KeySetFault, read_key_set};
-use eme_types::{Bytes, Copies, DomError, InitKind, KeyBytes, KeyId, Status};
+use eme_types::{Bytes, Copies, DomError, InitKind, KeyBytes, KeyId, MAX_SESSION_KIDS, Status};
 use init_data::{InitFault, kids_of};
 use key_statuses::{KeyTable, KnownKey, held_status, same_statuses, same_table, statuses_of};
 use std::alloc::{AllocError, Global};
@@ -103,7 +104,7 @@ fn plan_grant(
     ensures { IfOk result (λ plan. (m : Machine) → session_at m.sessions number ≡ Some (session_of session.now) → m.moment ≡ moment → job_done plan m ≡ update_job number promise (Ok set.now) m) }
 {
     let table = granted(&session.keys, set.keys.as_slice())?;
-    if table.len() > 256 {
+    if table.len() > MAX_SESSION_KIDS {
         return Ok(refuse(promise, DomError::Quota));
     }
     let changed = changed(
@@ -135,6 +136,7 @@ fn plan_update(
     sessions: &[Session],
     moment: u64,
 ) -> Result<JobPlan, AllocError>
+    requires { IsNumber (length sessions.now) number }
     ensures { IfOk result (λ plan. (m : Machine) → m.sessions ≡ map session_of sessions.now → m.moment ≡ moment → job_done plan m ≡ update_job number promise (set_of response.now) m) }
 {
     let set = match read_key_set(alloc, response.as_slice()) {
@@ -142,11 +144,8 @@ fn plan_update(
         Err(KeySetFault::OutOfMemory) => return Err(AllocError),
         Err(_) => return Ok(refuse(promise, DomError::TypeFault)),
     };
-    // A job's session is there, so the first arm does not come.
-    match find_number(sessions, number) {
-        None => Err(AllocError),
-        Some(session) => plan_grant(alloc, number, session, &set, promise, moment),
-    }
+    let session = numbered(sessions, number);
+    plan_grant(alloc, number, session, &set, promise, moment)
 }
 
 /// What a job will do.
@@ -156,6 +155,7 @@ pub fn plan_job(
     sessions: &[Session],
     moment: u64,
 ) -> Result<JobPlan, AllocError>
+    requires { IsJobOf (length sessions.now) job.now }
     ensures { IfOk result (IsJobPlan job.now (map session_of sessions.now) moment) }
 {
     match job {

@@ -12,6 +12,7 @@ mod losses;
 mod lost;
 mod session;
 mod sessions;
+mod step;
 mod task_plan;
 #[cfg(test)]
 mod tests;
@@ -20,3 +21,4 @@ pub use fault::StepFault;
 pub use law::promises_are_owed_until_they_are_settled;
 pub use lost::Lost;
 pub use sessions::Sessions;
+pub use step::Step;

@@ -1,5 +1,6 @@
 // The keys that a step will end.
 ghost use Rattle.std.specs.Prelude.{◌≡◌, ◌≤◌, ◌&&◌, not, map, length, IfOk, None, if◌then◌else◌};
+ghost use Rattle.eme_types.specs.declared.limits.TheConstants.{MAX_SESSIONS};
 ghost use Rattle.key_sessions.specs.SessionOf.{session_of};
 ghost use Rattle.key_sessions.specs.LostPair.{pair_of};
 ghost use Rattle.key_sessions.specs.Keys.{usable_key};
@@ -61,7 +62,7 @@ fn ended_by(
             Ok(list)
         }
         Change::Reported { .. } => Ok(Vec::new(alloc)),
-        Change::Over { .. } => {
+        Change::Closed { .. } => {
             let none = KeyTable::new(alloc);
             let list = ended_with(alloc, number, session, &none, true, moment)?;
             Ok(list)
@@ -115,7 +116,7 @@ pub fn lost_in_time(
     before: u64,
     after: u64,
 ) -> Result<Vec<Lost>, AllocError>
-    requires { length sessions.now ≤ 64 }
+    requires { length sessions.now ≤ MAX_SESSIONS }
     ensures { IfOk result (λ list. LosesInTime before after (map session_of sessions.now) (map pair_of list.items)) }
 {
     let mut list = Vec::new(alloc);

@@ -1,10 +1,11 @@
 // One session.
-ghost use Rattle.std.specs.Prelude.{◌≡◌, ◌+◌, [], map, Some, None, IfOk, MatchOption, IsTrue, ◌↔◌};
+ghost use Rattle.std.specs.Prelude.{◌≡◌, ◌+◌, [], map, Some, None, IfOk, MatchOption, length};
 ghost use Rattle.key_sessions.specs.SessionOf.{session_of};
 ghost use Rattle.key_sessions.specs.Machine.{new_session, session_at};
 ghost use Rattle.key_sessions.specs.Keys.{usable_key};
 ghost use Rattle.key_sessions.specs.Calls.{is_ending, state_fault as fault_of_state, or_empty};
 ghost use Rattle.key_sessions.specs.Changes.{LabelFound};
+ghost use Rattle.key_sessions.specs.Queued.{IsNumber};
 
 use eme_types::{Bytes, Copies, DomError, KeyBytes, KeyId, StatusList};
 use key_statuses::{KeyTable, usable_at};
@@ -66,6 +67,15 @@ pub fn find_number(sessions: &[Session], number: u32) -> Option<&Session>
         return Some(&sessions[at]);
     }
     None
+}
+
+/// The session with the number, which is there.
+pub fn numbered(sessions: &[Session], number: u32) -> &Session
+    requires { IsNumber (length sessions.now) number }
+    ensures { session_at (map session_of sessions.now) number ≡ Some (session_of result.now) }
+{
+    let at = (number - 1) as usize;
+    &sessions[at]
 }
 
 /// Closing or closed.

@@ -1,5 +1,6 @@
 // The sessions with their queues and promises.
 ghost use Rattle.std.specs.Prelude.{◌≡◌, ◌≤◌, ◌<◌, ◌+◌, ◌-◌, [], map, length, Some, OnOk, OnErr, IfOk, IsErrOf, IsTrue, ◌↔◌, ◌≢◌};
+ghost use Rattle.eme_types.specs.declared.limits.TheConstants.{MAX_SESSIONS};
 ghost use Rattle.task_queue.specs.declared.work.Task.TheVariants.{Fire};
 ghost use Rattle.key_statuses.specs.Picked.{picked};
 ghost use Rattle.key_sessions.specs.SessionsState.{SessionsState, HasStepped};
@@ -8,6 +9,7 @@ ghost use Rattle.key_sessions.specs.Keys.{pick, pick_from};
 ghost use Rattle.key_sessions.specs.SessionOf.{session_of};
 ghost use Rattle.key_sessions.specs.LostPair.{pair_of};
 ghost use Rattle.key_sessions.specs.Owed.{IsOwed};
+ghost use Rattle.key_sessions.specs.Queued.{AreThere};
 ghost use Rattle.key_sessions.specs.World.{is_resume as resume_is, resumes};
 ghost use Rattle.key_sessions.specs.Plans.{MaySettle, settled_by, fired_by};
 ghost use Rattle.key_sessions.specs.Steps.{queue_task};
@@ -22,6 +24,7 @@ use crate::job_plan::{JobPlan, plan_job};
 use crate::losses::{lost_by, lost_in_time};
 use crate::lost::Lost;
 use crate::session::{Session, usable};
+use crate::step::{Step, no_step};
 use crate::task_plan::{TaskPlan, plan_task, plan_tick};
 use eme_types::{AppCall, Effect, Effects, Event, KeyId, Settled};
 use key_statuses::{Pick, Picks};
@@ -29,7 +32,7 @@ use std::alloc::{AllocError, Global};
 use std::marker::Model;
 use task_queue::{Job, Log, Promises, Queue, Task};
 
-/// The sessions, the moment, both queues, the promises and the fired events; what the last step did and which keys it ended; and the room that is kept for events.
+/// The sessions, the moment, both queues, the promises and the fired events; the last step; and the room that is kept for events.
 #[derive(Drop)]
 pub struct Sessions {
     alloc: Global,
@@ -39,8 +42,7 @@ pub struct Sessions {
     promises: Promises,
     moment: u64,
     fired: Log<Event>,
-    effects: Effects,
-    lost: Vec<Lost>,
+    last: Step,
     room: usize,
 }
 
@@ -68,16 +70,16 @@ impl Sessions {
             promises: Promises::new(alloc),
             moment: 0,
             fired: Log::new(alloc),
-            effects: Effects::new(alloc),
-            lost: Vec::new(alloc),
+            last: no_step(alloc),
             room: 0,
         }
     }
 
-    /// Each pending promise stands in exactly one queued job or task, and there are at most 64 sessions.
+    /// Each pending promise stands in exactly one queued job or task, whose session is there, and there are at most 64 sessions.
     pub fn keeps(&self)
         ensures owed { IsOwed self.now.machine }
-        ensures few { length self.now.machine.sessions ≤ 64 }
+        ensures few { length self.now.machine.sessions ≤ MAX_SESSIONS }
+        ensures there { AreThere self.now.machine }
     {
         let _ = &self.alloc;
     }
@@ -103,8 +105,10 @@ impl Sessions {
         add_session(&mut self.items, created);
         change_session(&mut self.items, session, change);
         give_answer(&mut self.promises, &mut self.jobs, promise, answer);
-        self.effects = effects;
-        self.lost = Vec::new(self.alloc);
+        self.last = Step {
+            effects,
+            lost: Vec::new(self.alloc),
+        };
         Ok(promise)
     }
 
@@ -135,8 +139,10 @@ impl Sessions {
         } = plan;
         change_session(&mut self.items, session, change);
         self.tasks.put(task);
-        self.effects = Effects::new(self.alloc);
-        self.lost = lost;
+        self.last = Step {
+            effects: Effects::new(self.alloc),
+            lost,
+        };
         Ok(())
     }
 
@@ -175,8 +181,7 @@ impl Sessions {
         self.tasks.put_all(queued);
         settle_promise(&mut self.promises, settled);
         fire_event(&mut self.fired, fired);
-        self.effects = effects;
-        self.lost = lost;
+        self.last = Step { effects, lost };
         Ok(resume)
     }
 
@@ -192,8 +197,10 @@ impl Sessions {
         self.tasks.reserve(wanted)?;
         self.tasks.put_all(reports);
         self.moment = moment;
-        self.effects = Effects::new(self.alloc);
-        self.lost = lost;
+        self.last = Step {
+            effects: Effects::new(self.alloc),
+            lost,
+        };
         Ok(())
     }
 
@@ -201,7 +208,7 @@ impl Sessions {
     pub fn effects(&self) -> &[Effect]
         ensures { result.now ≡ self.now.effects }
     {
-        self.effects.as_slice()
+        self.last.effects.as_slice()
     }
 
     /// Hands the effects of the last step out.
@@ -210,14 +217,24 @@ impl Sessions {
         ensures rest { self.new ≡ record self.old { effects = [] } }
     {
         let none = Effects::new(self.alloc);
-        std::mem::replace(&mut self.effects, none)
+        std::mem::replace(&mut self.last.effects, none)
+    }
+
+    /// Hands the last step out: its effects and the keys that it ended.
+    pub fn take_step(&mut self) -> Step
+        ensures effects { result.effects ≡ self.old.effects }
+        ensures lost { map pair_of result.lost.items ≡ self.old.lost }
+        ensures rest { self.new ≡ record self.old { effects = []; lost = [] } }
+    {
+        let none = no_step(self.alloc);
+        std::mem::replace(&mut self.last, none)
     }
 
     /// The keys that the last step ended, each once.
     pub fn lost(&self) -> &[Lost]
         ensures { map pair_of result.now ≡ self.now.lost }
     {
-        self.lost.as_slice()
+        self.last.lost.as_slice()
     }
 
     /// Makes the room for events at least `n`.
@@ -329,7 +346,7 @@ fn is_resume(task: &Task) -> bool
 }
 
 fn choose_in(sessions: &[Session], moment: u64, kid: &KeyId) -> Option<Pick>
-    requires { length sessions.now ≤ 64 }
+    requires { length sessions.now ≤ MAX_SESSIONS }
     ensures { result ≡ picked (pick_from moment 1 (map session_of sessions.now) kid.now) }
 {
     let mut number = 1;

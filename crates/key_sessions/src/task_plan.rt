@@ -1,5 +1,6 @@
 // What a task will do, and what the time does, with all memory that it takes.
-ghost use Rattle.std.specs.Prelude.{◌≡◌, ◌+◌, ◌≤◌, [], ◌∷◌, length, map, Some, None, IfOk, count_by, is_some};
+ghost use Rattle.std.specs.Prelude.{◌≡◌, ◌+◌, ◌<◌, ◌≤◌, [], ◌∷◌, length, map, Some, None, IfOk, count_by, is_some};
+ghost use Rattle.eme_types.specs.declared.limits.TheConstants.{MAX_SESSIONS};
 ghost use Rattle.eme_types.specs.declared.call.Settled.TheVariants.{Resolved};
 ghost use Rattle.eme_types.specs.declared.call.Event.TheVariants.{KeyStatuses};
 ghost use Rattle.task_queue.specs.declared.work.Task.TheVariants.{Report, Fire, Resume};
@@ -8,9 +9,10 @@ ghost use Rattle.key_sessions.specs.Machine.{Machine, session_at};
 ghost use Rattle.key_sessions.specs.Steps.{unmoved, settle, fire, update_statuses, close_session};
 ghost use Rattle.key_sessions.specs.Tasks.{run_task, request_done, is_reported, reports_from};
 ghost use Rattle.key_sessions.specs.Plans.{IsTaskPlan, task_done, settled_of};
+ghost use Rattle.key_sessions.specs.Queued.{IsNumber, IsTaskOf};
 
 use crate::change::Change;
-use crate::session::{Session, find_number};
+use crate::session::{Session, find_number, numbered};
 use clearkey_json::request_text;
 use eme_types::{Copies, Effect, Effects, Event, Kids, Settled};
 use key_statuses::same_statuses;
@@ -81,7 +83,7 @@ fn plan_fire(alloc: Global, event: &Event) -> Result<TaskPlan, AllocError>
 
 /// The id after those that were given.
 fn free_id(sessions: &[Session]) -> u32
-    requires { length sessions.now ≤ 64 }
+    requires { length sessions.now ≤ MAX_SESSIONS }
     ensures { result ≡ count_by (λ s. is_some s.id) (map session_of sessions.now) + 1 }
 {
     sessions.iter().filter(|s| s.id.is_some()).count() as u32 + 1
@@ -94,14 +96,11 @@ fn plan_start(
     kids: &Kids,
     promise: u64,
 ) -> Result<TaskPlan, AllocError>
-    requires { length sessions.now ≤ 64 }
+    requires few { length sessions.now ≤ MAX_SESSIONS }
+    requires some { 0 < length kids.now }
     ensures plan { IfOk result (λ plan. (m : Machine) → m.sessions ≡ map session_of sessions.now → task_done plan m ≡ settle promise Resolved (unmoved (request_done session kids.now m))) }
     ensures settles { IfOk result (λ plan. plan.settled ≡ Some (promise, Resolved)) }
 {
-    // A request names at least one key id.
-    if kids.len() == 0 {
-        return Err(AllocError);
-    }
     let id = free_id(sessions);
     let text = request_text(alloc, kids)?;
     let mut queued = Vec::new(alloc);
@@ -170,14 +169,11 @@ fn plan_done(
     promise: u64,
     moment: u64,
 ) -> Result<TaskPlan, AllocError>
+    requires { IsNumber (length sessions.now) number }
     ensures plan { IfOk result (λ plan. (m : Machine) → m.sessions ≡ map session_of sessions.now → m.moment ≡ moment → task_done plan m ≡ settle promise Resolved (update_statuses number (unmoved m))) }
     ensures settles { IfOk result (λ plan. plan.settled ≡ Some (promise, Resolved)) }
 {
-    // A task's session is there, so the first arm does not come.
-    let session = match find_number(sessions, number) {
-        None => return Err(AllocError),
-        Some(session) => session,
-    };
+    let session = numbered(sessions, number);
     let mut plan = plan_report(alloc, session, number, moment)?;
     plan.effects.push(Effect::Promise {
         promise,
@@ -195,14 +191,11 @@ fn plan_close(
     promise: u64,
     moment: u64,
 ) -> Result<TaskPlan, AllocError>
+    requires { IsNumber (length sessions.now) number }
     ensures plan { IfOk result (λ plan. (m : Machine) → m.sessions ≡ map session_of sessions.now → m.moment ≡ moment → task_done plan m ≡ settle promise Resolved (close_session number (update_statuses number (unmoved m)))) }
     ensures settles { IfOk result (λ plan. plan.settled ≡ Some (promise, Resolved)) }
 {
-    // A task's session is there, so the first arm does not come.
-    let session = match find_number(sessions, number) {
-        None => return Err(AllocError),
-        Some(session) => session,
-    };
+    let session = numbered(sessions, number);
     let list = session.keys.statuses(session.expiration, moment)?;
     let told = list.copy()?;
     let mut effects = Effects::new(alloc);
@@ -217,7 +210,7 @@ fn plan_close(
     })?;
     Ok(TaskPlan {
         session: number,
-        change: Some(Change::Over { list }),
+        change: Some(Change::Closed { list }),
         queued: report_tasks(alloc, number)?,
         settled: Some((promise, Settled::Resolved)),
         fired: None,
@@ -253,7 +246,8 @@ pub fn plan_task(
     sessions: &[Session],
     moment: u64,
 ) -> Result<TaskPlan, AllocError>
-    requires { length sessions.now ≤ 64 }
+    requires few { length sessions.now ≤ MAX_SESSIONS }
+    requires there { IsTaskOf (length sessions.now) task.now }
     ensures plan { IfOk result (IsTaskPlan task.now (map session_of sessions.now) moment) }
     ensures settles { IfOk result (λ plan. plan.settled ≡ settled_of task.now) }
 {
@@ -306,7 +300,7 @@ pub fn plan_tick(
     before: u64,
     after: u64,
 ) -> Result<Vec<Task>, AllocError>
-    requires { length sessions.now ≤ 64 }
+    requires { length sessions.now ≤ MAX_SESSIONS }
     ensures { IfOk result (λ tasks. tasks.items ≡ reports_from before after 1 (map session_of sessions.now)) }
 {
     let mut tasks = Vec::new(alloc);

@@ -1,3 +1,4 @@
+// The sessions by tables of lines: what each line does, and what it tells.
 use crate::{Sessions, StepFault};
 use eme_types::{AppCall, Bytes, Effect, Event, KeyBytes, KeyId, Settled, StatusList};
 use key_statuses::Picks;

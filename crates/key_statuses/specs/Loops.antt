@@ -22,6 +22,7 @@ FirstOf table kid (Some i) = (i < length table) × ((key : KeyBytes) (d : KnownK
 abbrev pub InsertsAt : List (List ℕ × Status) → List ℕ → ℕ → Type 0
 InsertsAt list kid i = (i ≤ length list) × ((status : Status) → insert list i (kid, status) ≡ insert_status (kid, status) list)
 
+-- no status stands behind the id
 abbrev pub NoneAfter : List (List ℕ × Status) → List ℕ → Type 0
 NoneAfter [] kid = Unit {0}
 NoneAfter (t ∷ more) kid = (comes_before kid t.0 ≡ false) × NoneAfter more kid

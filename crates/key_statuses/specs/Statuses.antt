@@ -21,6 +21,7 @@ abbrev pub held_status : Option ℕ → ℕ → Status
 held_status None moment = Usable
 held_status (Some end) moment = if nat_lt moment end then Usable else Expired
 
+-- the status is `Usable`
 abbrev pub is_usable : Status → Bool
 is_usable Usable = true
 is_usable Expired = false
@@ -31,6 +32,7 @@ abbrev pub status_of : Option KeyBytes → Status → Status
 status_of None held = Released
 status_of (Some key) held = held
 
+-- the first of the two stands before the second
 abbrev pub is_less : Ordering → Bool
 is_less Less = true
 is_less Equal = false
@@ -40,10 +42,12 @@ is_less Greater = false
 abbrev pub comes_before : List ℕ → List ℕ → Bool
 comes_before a b = is_less (slice_cmp nat_cmp a b)
 
+-- the status stands in the order of ids, before the first greater id
 abbrev pub insert_status : List ℕ × Status → List (List ℕ × Status) → List (List ℕ × Status)
 insert_status s [] = s ∷ []
 insert_status s (t ∷ more) = if comes_before s.0 t.0 then s ∷ (t ∷ more) else t ∷ insert_status s more
 
+-- the statuses, with those of these known keys
 abbrev pub statuses_from : List (List ℕ × Status) → List KnownKey → Status → List (List ℕ × Status)
 statuses_from list [] held = list
 statuses_from list (known ∷ more) held = statuses_from (insert_status (known.kid, status_of known.key held) list) more held
@@ -56,6 +60,7 @@ statuses table held = statuses_from [] table held
 abbrev pub reported_as : Status → KnownKey → List ℕ × Status
 reported_as held known = (known.kid, status_of known.key held)
 
+-- the id of a status
 abbrev pub kid_of : List ℕ × Status → List ℕ
 kid_of s = s.0
 
@@ -63,6 +68,7 @@ kid_of s = s.0
 abbrev pub AreSorted : List (List ℕ × Status) → Type 0
 AreSorted list = IsStrictlySortedBy (slice_cmp nat_cmp) (map kid_of list)
 
+-- both are none, or the same key
 abbrev pub same_key : Option KeyBytes → Option KeyBytes → Bool
 same_key None None = true
 same_key None (Some b) = false
@@ -76,6 +82,7 @@ same_table [] (y ∷ ys) = false
 same_table (x ∷ xs) [] = false
 same_table (x ∷ xs) (y ∷ ys) = (bytes_eq x.kid y.kid && same_key x.key y.key) && same_table xs ys
 
+-- the statuses are the same
 abbrev pub same_status : Status → Status → Bool
 same_status Usable Usable = true
 same_status Usable Expired = false
@@ -87,6 +94,7 @@ same_status Released Usable = false
 same_status Released Expired = false
 same_status Released Released = true
 
+-- the lists have the same ids and statuses in the same order
 abbrev pub same_statuses : List (List ℕ × Status) → List (List ℕ × Status) → Bool
 same_statuses [] [] = true
 same_statuses [] (y ∷ ys) = false

@@ -10,6 +10,7 @@ abbrev pub key_in : List KnownKey → List ℕ → Option KeyBytes
 key_in [] kid = None
 key_in (known ∷ more) kid = if bytes_eq known.kid kid then known.key else key_in more kid
 
+-- an id that is known with its key
 abbrev pub known_with : List ℕ → KeyBytes → KnownKey
 known_with kid key = record { kid = kid; key = Some key }
 

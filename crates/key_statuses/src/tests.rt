@@ -1,3 +1,4 @@
+// Key tables and their statuses by example.
 use crate::{KeyTable, held_status, same_statuses, same_table, statuses_of, usable_at};
 use eme_types::{KeyBytes, KeyId, Status};
 use std::alloc::Global;

@@ -3,8 +3,9 @@ use Rattle.std.proofs.Common.{zero, suc, ◌≡◌, ℕ, ◌+◌, ◌<◌, ◌�
 use Rattle.std.specs.List.{fold}
 use Rattle.std.proofs.lemmas.List.{drop_more, drop_all}
 use Rattle.std.proofs.lemmas.List.Sums.{fold_more}
+use Rattle.std.proofs.lemmas.Option.{same_Some}
 use Rattle.eme_types.specs.declared.entry.Entry.{Entry}
-use Rattle.eme_types.specs.declared.entry.Entry.TheVariants.{Call, Job, Task, Tick, Feed, Claim, Deliver, GiveUp, Publish, PassClear, WaitForKey, Settle}
+use Rattle.eme_types.specs.declared.entry.Entry.TheVariants.{Feed}
 use Rattle.eme_types.specs.declared.call.Effect.{Effect}
 use Rattle.key_sessions.specs.World.{World, empty_world}
 use Rattle.cdm_state.specs.After.{after_entry, effects_of}
@@ -12,15 +13,13 @@ use Rattle.cdm_state.specs.History.{world}
 use Rattle.cdm_state.specs.Settlements.{effects_from, effects_in}
 use Rattle.output_order.proofs.Puts.{put_three}
 use Rattle.output_order.specs.Log.{entry_line, effect_lines, fragments_fed, lines_from, log_of}
+use Rattle.output_order.specs.Law.{LogGoesOn}
 
-some_same : {A : Type 0} {a b : A} → Some a ≡ Some b → a ≡ b
-some_same e = cc
-
--- the number of fragments that the entries feed
-abbrev pub fed_from : ℕ → List Entry → ℕ
+-- the number of fragments after these entries, where n were fed before
+abbrev fed_from : ℕ → List Entry → ℕ
 fed_from n h = fold (λ a e. a + fragments_fed e) n h
 
-pub lines_from-append : (w : World) (p n : ℕ) (h g : List Entry) → lines_from w p n (h ++ g) ≡ lines_from w p n h ++ lines_from (fold after_entry w h) (p + length h) (fed_from n h) g
+lines_from-append : (w : World) (p n : ℕ) (h g : List Entry) → lines_from w p n (h ++ g) ≡ lines_from w p n h ++ lines_from (fold after_entry w h) (p + length h) (fed_from n h) g
 lines_from-append w p n [] g = ap (λ k. lines_from w k n g) (let e : p ≡ p + 0 = omega arith in e)
 lines_from-append w p n (x ∷ h) g =
     let v : World = after_entry w x in
@@ -30,10 +29,10 @@ lines_from-append w p n (x ∷ h) g =
     let e : lines_from v (p + 1) m (h ++ g) ≡ lines_from v (p + 1) m h ++ lines_from (fold after_entry v h) (p + suc (length h)) (fed_from m h) g = ih ∙ ap (λ q. lines_from v (p + 1) m h ++ lines_from (fold after_entry v h) q (fed_from m h) g) k in
     ap (λ (t : List ℕ). entry_line p n x ++ (effect_lines (effects_of w x) ++ t)) e ∙ sym (append_assoc (entry_line p n x) (effect_lines (effects_of w x) ++ lines_from v (p + 1) m h) _ ∙ ap (λ (t : List ℕ). entry_line p n x ++ t) (append_assoc (effect_lines (effects_of w x)) (lines_from v (p + 1) m h) _))
 
--- the log of a longer history is the log of its front, and behind it the lines of the further entries
-pub log_more : (ids : List ℕ) (h g : List Entry) → log_of ids (h ++ g) ≡ log_of ids h ++ lines_from (world ids h) (1 + length h) (fed_from 0 h) g
+-- the log of a history that goes on
+pub log_goes_on : LogGoesOn
 unfolding log_of world
-log_more ids h g = lines_from-append (empty_world ids) 1 0 h g
+log_goes_on ids h g = lines_from-append (empty_world ids) 1 0 h g ∙ ap (λ (p : ℕ). log_of ids h ++ lines_from (world ids h) p (fed_from 0 h) g) (let e : 1 + length h ≡ length h + 1 = omega arith in e)
 
 effects_from_at : (w : World) (h : List Entry) (i : ℕ) (d : Entry) → i < length h → slice_get (effects_from w h) i ≡ Some (effects_of (fold after_entry w (take i h)) (get_or h i d))
 effects_from_at w [] i d lt = absurd (omega arith)
@@ -59,34 +58,30 @@ unfolding log_of world
 logged_first ids h = record { all = refl; few = omega arith }
 
 fed_at_most_one : (e : Entry) → fragments_fed e ≤ 1
-fed_at_most_one (Call lane line call) = omega arith
-fed_at_most_one Job = omega arith
-fed_at_most_one Task = omega arith
-fed_at_most_one (Tick line moment) = omega arith
 fed_at_most_one (Feed line None) = omega arith
 fed_at_most_one (Feed line (Some f)) = omega arith
-fed_at_most_one (Claim worker track index session kid) = omega arith
-fed_at_most_one (Deliver place verdict) = omega arith
-fed_at_most_one (GiveUp place) = omega arith
-fed_at_most_one (Publish track index place) = omega arith
-fed_at_most_one (PassClear track index) = omega arith
-fed_at_most_one (WaitForKey track) = omega arith
-fed_at_most_one (Settle line) = omega arith
+fed_at_most_one e = omega arith
 
--- the lines of the first of these entries, and of those behind it
-lines_split : (w v : World) (p fed : ℕ) (e x : Entry) (effects : List Effect) (left rest : List Entry) → left ≡ x ∷ rest → e ≡ x → effects ≡ effects_of w x → v ≡ after_entry w x → entry_line p fed e ++ (effect_lines effects ++ lines_from v (p + 1) (fed + fragments_fed e) rest) ≡ lines_from w p fed left
-lines_split w v p fed e x effects left rest first is did goes =
-    let G : Entry → List Effect → World → List ℕ = λ y fx u. entry_line p fed y ++ (effect_lines fx ++ lines_from u (p + 1) (fed + fragments_fed y) rest) in
-    ap (λ y. G y effects v) is ∙ (ap (λ fx. G x fx v) did ∙ (ap (λ u. G x (effects_of w x) u) goes ∙ sym (ap (λ es. lines_from w p fed es) first)))
+-- the entry at an index and what it did
+pub record IsEntry (ids : List ℕ) (h : List Entry) (i : ℕ) (e : Entry) (effects : List Effect) : Type 0 where
+  pub within : i < length h
+  pub is : e ≡ get_or h i e
+  pub did : slice_get (effects_in ids h) i ≡ Some effects
 
-pub logged_more : (ids : List ℕ) (h : List Entry) (i fed : ℕ) (text now next : List ℕ) (e : Entry) (effects : List Effect) → i < length h → e ≡ get_or h i e → slice_get (effects_in ids h) i ≡ Some effects → IsLogged ids h i fed text → now ≡ text ++ entry_line (i + 1) fed e → next ≡ now ++ effect_lines effects → IsLogged ids h (i + 1) (fed + fragments_fed e) next
-logged_more ids h i fed text now next e effects lt is seen l line more =
+pub logged_more : (ids : List ℕ) (h : List Entry) (i fed : ℕ) (text now next : List ℕ) (e : Entry) (effects : List Effect) → IsEntry ids h i e effects → IsLogged ids h i fed text → now ≡ text ++ entry_line (i + 1) fed e → next ≡ now ++ effect_lines effects → IsLogged ids h (i + 1) (fed + fragments_fed e) next
+logged_more ids h i fed text now next e effects at l line more =
     let w : World = world ids (take i h) in
     let v : World = world ids (take (i + 1) h) in
-    let did : effects ≡ effects_of w (get_or h i e) = some_same (sym seen ∙ effects_at ids h i e lt) in
-    let split : entry_line (i + 1) fed e ++ (effect_lines effects ++ lines_from v (i + 1 + 1) (fed + fragments_fed e) (drop (i + 1) h)) ≡ lines_from w (i + 1) fed (drop i h) = lines_split w v (i + 1) fed e (get_or h i e) effects (drop i h) (drop (i + 1) h) (drop_more h i e lt) is did (world_more ids h i e lt) in
+    let x : Entry = get_or h i e in
+    let rest : List Entry = drop (i + 1) h in
+    let G : Entry → List Effect → World → List ℕ = λ y fx u. entry_line (i + 1) fed y ++ (effect_lines fx ++ lines_from u (i + 1 + 1) (fed + fragments_fed y) rest) in
+    let did : effects ≡ effects_of w x = same_Some effects (effects_of w x) (sym at.did ∙ effects_at ids h i e at.within) in
+    let goes : v ≡ after_entry w x = world_more ids h i e at.within in
+    let left : drop i h ≡ x ∷ rest = drop_more h i e at.within in
+    let split : G e effects v ≡ lines_from w (i + 1) fed (drop i h) = ap (λ y. G y effects v) at.is ∙ (ap (λ fx. G x fx v) did ∙ (ap (λ u. G x (effects_of w x) u) goes ∙ sym (ap (λ es. lines_from w (i + 1) fed es) left))) in
+    let after : List ℕ = lines_from v (i + 1 + 1) (fed + fragments_fed e) rest in
     record {
-      all = put_three text (entry_line (i + 1) fed e) now (effect_lines effects) next (lines_from v (i + 1 + 1) (fed + fragments_fed e) (drop (i + 1) h)) (next ++ lines_from v (i + 1 + 1) (fed + fragments_fed e) (drop (i + 1) h)) (lines_from w (i + 1) fed (drop i h)) line more refl split ∙ l.all;
+      all = put_three text (entry_line (i + 1) fed e) now (effect_lines effects) next after (next ++ after) (lines_from w (i + 1) fed (drop i h)) line more refl split ∙ l.all;
       few = let one : fragments_fed e ≤ 1 = fed_at_most_one e in let few : fed ≤ i = l.few in omega arith;
     }
 

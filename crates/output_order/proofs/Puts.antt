@@ -24,7 +24,11 @@ pub put_three : (old a one b two c new words : List ℕ) → one ≡ old ++ a �
 put_three old a one b two c new words e f g is =
     put_two old (a ++ b) two c new words (put_two old a one b two (a ++ b) e f refl) g (append_assoc a b c ∙ is)
 
-pub message_words : (session id : ℕ) (text head : List ℕ) → head ≡ codes "  event message " ++ (decimal session ++ (codes " " ++ (decimal id ++ codes " license-request "))) → head ++ (text ++ codes "\n") ≡ event_line (Message session id text)
+-- what stands in front of a message's text
+abbrev message_head : ℕ → ℕ → List ℕ
+message_head session id = codes "  event message " ++ (decimal session ++ (codes " " ++ (decimal id ++ codes " license-request ")))
+
+pub message_words : (session id : ℕ) (text head : List ℕ) → head ≡ message_head session id → head ++ (text ++ codes "\n") ≡ event_line (Message session id text)
 message_words session id text head is =
     ap (λ (x : List ℕ). x ++ (text ++ codes "\n")) is ∙ simp append_assoc
 

@@ -5,7 +5,7 @@ use Rattle.std.specs.List.{AllByRecursion}
 use Rattle.eme_types.specs.declared.media.Fragment.{Fragment}
 use Rattle.eme_types.specs.declared.media.Media.{Media}
 use Rattle.eme_types.specs.declared.entry.Entry.{Entry}
-use Rattle.eme_types.specs.declared.entry.Entry.TheVariants.{Call, Job, Task, Tick, Feed, Claim, Deliver, GiveUp, Publish, PassClear, WaitForKey, Settle}
+use Rattle.eme_types.specs.declared.entry.Entry.TheVariants.{Call, Tick, Feed, Settle}
 use Rattle.script_lang.specs.declared.script.Line.{Line}
 use Rattle.cdm_state.specs.History.{world, AtRest}
 use Rattle.output_order.specs.Lane.{lines_in, lane, asked_in, feeds_in}
@@ -23,21 +23,12 @@ LanesBegun script h = (i : ℕ) → i ≤ 7 → IsFront (lane (lines_in h) i) (l
 abbrev pub LanesDone : List Line → List Entry → Type 0
 LanesDone script h = (i : ℕ) → i ≤ 7 → lane (lines_in h) i ≡ lane script i
 
+-- a call is of a lane that there is
 abbrev pub HasLane : Entry → Type 0
 HasLane (Call lane line call) = lane ≤ 7
-HasLane Job = Unit {0}
-HasLane Task = Unit {0}
-HasLane (Tick line moment) = Unit {0}
-HasLane (Feed line fragment) = Unit {0}
-HasLane (Claim worker track index session kid) = Unit {0}
-HasLane (Deliver place verdict) = Unit {0}
-HasLane (GiveUp place) = Unit {0}
-HasLane (Publish track index place) = Unit {0}
-HasLane (PassClear track index) = Unit {0}
-HasLane (WaitForKey track) = Unit {0}
-HasLane (Settle line) = Unit {0}
+HasLane e = Unit {0}
 
--- no call has a lane above 7
+-- each call is of a lane that there is
 abbrev pub LanesKnown : List Entry → Type 0
 LanesKnown h = (n : ℕ) (e : Entry) → slice_get h n ≡ Some e → HasLane e
 
@@ -53,17 +44,10 @@ pub record FeedsDone (fragments : List Fragment) (h : List Entry) : Type 0 where
 -- the entry is a line's, and the line has a number above 0
 abbrev pub IsOfLine : Entry → Type 0
 IsOfLine (Call lane line call) = line ≢ 0
-IsOfLine Job = ⊥
-IsOfLine Task = ⊥
 IsOfLine (Tick line moment) = line ≢ 0
 IsOfLine (Feed line fragment) = line ≢ 0
-IsOfLine (Claim worker track index session kid) = ⊥
-IsOfLine (Deliver place verdict) = ⊥
-IsOfLine (GiveUp place) = ⊥
-IsOfLine (Publish track index place) = ⊥
-IsOfLine (PassClear track index) = ⊥
-IsOfLine (WaitForKey track) = ⊥
 IsOfLine (Settle line) = line ≢ 0
+IsOfLine e = ⊥
 
 -- a feed and a settle with line 0 for each of these fragments
 abbrev pub feed_rest : List Fragment → List Entry

@@ -3,7 +3,7 @@ use Rattle.std.specs.Prelude.{ℕ, ◌==◌, Bool, if◌then◌else◌, List, []
 use Rattle.std.specs.List.{filter, flat_map}
 use Rattle.eme_types.specs.declared.media.Fragment.{Fragment}
 use Rattle.eme_types.specs.declared.entry.Entry.{Entry}
-use Rattle.eme_types.specs.declared.entry.Entry.TheVariants.{Call, Job, Task, Tick, Feed, Claim, Deliver, GiveUp, Publish, PassClear, WaitForKey, Settle}
+use Rattle.eme_types.specs.declared.entry.Entry.TheVariants.{Call, Tick, Feed, Settle}
 use Rattle.script_lang.specs.declared.script.Line.{Line}
 use Rattle.script_lang.specs.declared.script.Action.{Action}
 use Rattle.script_lang.specs.declared.script.Action.TheVariants.{Ask, Feed as FeedAction, Clock, Settle as SettleAction}
@@ -15,22 +15,16 @@ line_with number lane action = if number == 0 then [] else record { number = num
 -- the line that an entry stands for. Ticks, feeds and settles are of lane 0
 abbrev pub line_of : Entry → List Line
 line_of (Call lane line call) = line_with line lane (Ask call)
-line_of Job = []
-line_of Task = []
 line_of (Tick line moment) = line_with line 0 (Clock moment)
 line_of (Feed line fragment) = line_with line 0 FeedAction
-line_of (Claim worker track index session kid) = []
-line_of (Deliver place verdict) = []
-line_of (GiveUp place) = []
-line_of (Publish track index place) = []
-line_of (PassClear track index) = []
-line_of (WaitForKey track) = []
 line_of (Settle line) = line_with line 0 SettleAction
+line_of e = []
 
 -- the lines that a history has gone through, in order
 abbrev pub lines_in : List Entry → List Line
 lines_in h = flat_map line_of h
 
+-- the line is of lane i
 abbrev pub is_of_lane : ℕ → Line → Bool
 is_of_lane i line = line.lane == i
 
@@ -41,17 +35,10 @@ lane lines i = filter (is_of_lane i) lines
 -- the entry, where it is a line's: a call, a tick, a feed or a settle
 abbrev pub asked : Entry → List Entry
 asked (Call lane line call) = Call lane line call ∷ []
-asked Job = []
-asked Task = []
 asked (Tick line moment) = Tick line moment ∷ []
 asked (Feed line fragment) = Feed line fragment ∷ []
-asked (Claim worker track index session kid) = []
-asked (Deliver place verdict) = []
-asked (GiveUp place) = []
-asked (Publish track index place) = []
-asked (PassClear track index) = []
-asked (WaitForKey track) = []
 asked (Settle line) = Settle line ∷ []
+asked e = []
 
 -- the entries of a history that are a line's or implied, in order
 abbrev pub asked_in : List Entry → List Entry
@@ -59,18 +46,8 @@ asked_in h = flat_map asked h
 
 -- what a feed gives: a fragment, or none
 abbrev pub fed_by : Entry → List (Option Fragment)
-fed_by (Call lane line call) = []
-fed_by Job = []
-fed_by Task = []
-fed_by (Tick line moment) = []
 fed_by (Feed line fragment) = fragment ∷ []
-fed_by (Claim worker track index session kid) = []
-fed_by (Deliver place verdict) = []
-fed_by (GiveUp place) = []
-fed_by (Publish track index place) = []
-fed_by (PassClear track index) = []
-fed_by (WaitForKey track) = []
-fed_by (Settle line) = []
+fed_by e = []
 
 -- what the feeds of a history give, in order
 abbrev pub feeds_in : List Entry → List (Option Fragment)

@@ -4,3 +4,4 @@ pub mod TrackFile
 pub mod Lane
 pub mod Complete
 pub mod Staffed
+pub mod Law

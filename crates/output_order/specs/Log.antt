@@ -28,6 +28,7 @@ abbrev pub hex_text : List ℕ → List ℕ
 hex_text [] = codes "-"
 hex_text (b ∷ more) = encode_lower (b ∷ more)
 
+-- whether a delivery was taken, or came too late
 abbrev pub verdict_name : Verdict → List ℕ
 verdict_name Taken = codes "taken"
 verdict_name Stale = codes "stale"
@@ -52,6 +53,7 @@ entry_words n (PassClear track index) = codes " clear " ++ (decimal track ++ (co
 entry_words n (WaitForKey track) = codes " wait " ++ (decimal track ++ codes "\n")
 entry_words n (Settle line) = codes " settle " ++ (decimal line ++ codes "\n")
 
+-- the line of an entry at its place, where n fragments were fed before
 abbrev pub entry_line : ℕ → ℕ → Entry → List ℕ
 entry_line place n e = decimal place ++ entry_words n e
 
@@ -61,6 +63,7 @@ status_name Usable = codes "usable"
 status_name Expired = codes "expired"
 status_name Released = codes "released"
 
+-- a key id and its status
 abbrev pub status_words : List ℕ × Status → List ℕ
 status_words s = codes " " ++ (hex_text s.0 ++ (codes "=" ++ status_name s.1))
 
@@ -72,6 +75,7 @@ error_name NotSupported = codes "NotSupportedError"
 error_name Quota = codes "QuotaExceededError"
 error_name UnknownLabel = codes "UnknownLabel"
 
+-- how a promise was settled
 abbrev pub settled_words : Settled → List ℕ
 settled_words Resolved = codes " resolved\n"
 settled_words ResolvedFalse = codes " resolved false\n"
@@ -83,12 +87,14 @@ abbrev pub init_name : InitKind → List ℕ
 init_name Cenc = codes "cenc"
 init_name Keyids = codes "keyids"
 
+-- the line of an event that was fired (Encrypted Media Extensions, Event Summary)
 abbrev pub event_line : Event → List ℕ
 event_line (Message session id text) = codes "  event message " ++ (decimal session ++ (codes " " ++ (decimal id ++ (codes " license-request " ++ (text ++ codes "\n")))))
 event_line (KeyStatuses session) = codes "  event keystatuseschange " ++ (decimal session ++ codes "\n")
 event_line (WaitingForKey track) = codes "  event waitingforkey " ++ (decimal track ++ codes "\n")
 event_line (Encrypted init) = codes "  event encrypted " ++ (init_name init.kind ++ (codes " " ++ (hex_text init.bytes ++ codes "\n")))
 
+-- the line of an effect
 abbrev pub effect_line : Effect → List ℕ
 effect_line (Statuses session list) = codes "  statuses " ++ (decimal session ++ (flat_map status_words list ++ codes "\n"))
 effect_line (Closed session) = codes "  closed " ++ (decimal session ++ codes "\n")
@@ -99,24 +105,15 @@ effect_line (Fired event) = event_line event
 abbrev pub effect_lines : List Effect → List ℕ
 effect_lines effects = flat_map effect_line effects
 
+-- one fragment, or none
 abbrev pub fragments_in : Option Fragment → ℕ
 fragments_in None = 0
 fragments_in (Some f) = 1
 
 -- how many fragments an entry feeds
 abbrev pub fragments_fed : Entry → ℕ
-fragments_fed (Call lane line call) = 0
-fragments_fed Job = 0
-fragments_fed Task = 0
-fragments_fed (Tick line moment) = 0
 fragments_fed (Feed line fragment) = fragments_in fragment
-fragments_fed (Claim worker track index session kid) = 0
-fragments_fed (Deliver place verdict) = 0
-fragments_fed (GiveUp place) = 0
-fragments_fed (Publish track index place) = 0
-fragments_fed (PassClear track index) = 0
-fragments_fed (WaitForKey track) = 0
-fragments_fed (Settle line) = 0
+fragments_fed e = 0
 
 -- the lines of these entries from a place and a world on, where n fragments were fed before
 abbrev pub lines_from : World → ℕ → ℕ → List Entry → List ℕ

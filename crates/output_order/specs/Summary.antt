@@ -1,52 +1,46 @@
 -- The summary: how many entries and promises there are, and what is out on each track.
-use Rattle.std.specs.Prelude.{ℕ, Bool, true, false, List, ◌++◌, length, Option, Some, None, codes, count_by}
+use Rattle.std.specs.Prelude.{ℕ, Bool, true, false, not, List, ◌++◌, length, Option, Some, None, codes, count_by}
 use Rattle.std.specs.List.{sum_by, flat_map}
 use Rattle.std.specs.Fmt.{decimal}
 use Rattle.eme_types.specs.declared.call.Settled.{Settled}
-use Rattle.eme_types.specs.declared.call.Settled.TheVariants.{Resolved, ResolvedFalse, ResolvedConfig, Rejected}
+use Rattle.eme_types.specs.declared.call.Settled.TheVariants.{Rejected}
 use Rattle.eme_types.specs.declared.call.Effect.{Effect}
-use Rattle.eme_types.specs.declared.call.Effect.TheVariants.{Statuses, Closed, Promise, Fired}
+use Rattle.eme_types.specs.declared.call.Effect.TheVariants.{Promise}
 use Rattle.eme_types.specs.declared.entry.Entry.{Entry}
 use Rattle.cdm_world.specs.Tracks.{TrackState, find_track}
 use Rattle.cdm_state.specs.History.{world}
 use Rattle.cdm_state.specs.Output.{out}
 use Rattle.cdm_state.specs.Settlements.{effects_in, calls_in}
 
-abbrev pub is_resolved : Settled → Bool
-is_resolved Resolved = true
-is_resolved ResolvedFalse = true
-is_resolved (ResolvedConfig text) = true
-is_resolved (Rejected error) = false
-
+-- the promise was rejected
 abbrev pub is_rejected : Settled → Bool
-is_rejected Resolved = false
-is_rejected ResolvedFalse = false
-is_rejected (ResolvedConfig text) = false
 is_rejected (Rejected error) = true
+is_rejected how = false
 
+-- the effect resolves a promise
 abbrev pub resolves : Effect → Bool
-resolves (Statuses session list) = false
-resolves (Closed session) = false
-resolves (Promise promise how) = is_resolved how
-resolves (Fired event) = false
+resolves (Promise promise how) = not (is_rejected how)
+resolves effect = false
 
+-- the effect rejects a promise
 abbrev pub rejects : Effect → Bool
-rejects (Statuses session list) = false
-rejects (Closed session) = false
 rejects (Promise promise how) = is_rejected how
-rejects (Fired event) = false
+rejects effect = false
 
 -- how often a promise is resolved in a history
 abbrev pub times_resolved : List ℕ → List Entry → ℕ
 times_resolved ids h = sum_by (count_by resolves) (effects_in ids h)
 
+-- how often a promise is rejected in a history
 abbrev pub times_rejected : List ℕ → List Entry → ℕ
 times_rejected ids h = sum_by (count_by rejects) (effects_in ids h)
 
+-- the track is there and waits for a key
 abbrev pub waits : Option TrackState → Bool
 waits None = false
 waits (Some t) = t.waiting
 
+-- a truth in words
 abbrev pub yes_or_no : Bool → List ℕ
 yes_or_no true = codes "yes"
 yes_or_no false = codes "no"

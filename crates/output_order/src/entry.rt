@@ -1,6 +1,6 @@
 // The line of an entry.
 ghost use Rattle.std.specs.Prelude.{◌≡◌, ◌<◌, ◌-◌, ◌^◌, ◌+◌, IfOk, string_bytes};
-ghost use Rattle.output_order.specs.Log.{entry_line, fragments_fed as fragments_fed_by};
+ghost use Rattle.output_order.specs.Log.{entry_line, fragments_fed};
 
 use crate::names::{hex_text, verdict_name};
 use eme_types::Entry;
@@ -62,44 +62,13 @@ pub fn entry_text(alloc: Global, place: u64, fed: u64, entry: &Entry) -> Result<
 
 /// How many fragments the entry feeds.
 pub fn fragments_fed(entry: &Entry) -> u64
-    ensures { result ≡ fragments_fed_by entry.now }
+    ensures { result ≡ fragments_fed entry.now }
 {
     match entry {
         Entry::Feed {
             line: _,
             fragment: Some(_),
         } => 1,
-        Entry::Feed {
-            line: _,
-            fragment: None,
-        } => 0,
-        Entry::Call {
-            lane: _,
-            line: _,
-            call: _,
-        } => 0,
-        Entry::Job => 0,
-        Entry::Task => 0,
-        Entry::Tick { line: _, moment: _ } => 0,
-        Entry::Claim {
-            worker: _,
-            track: _,
-            index: _,
-            session: _,
-            kid: _,
-        } => 0,
-        Entry::Deliver {
-            place: _,
-            verdict: _,
-        } => 0,
-        Entry::GiveUp { place: _ } => 0,
-        Entry::Publish {
-            track: _,
-            index: _,
-            place: _,
-        } => 0,
-        Entry::PassClear { track: _, index: _ } => 0,
-        Entry::WaitForKey { track: _ } => 0,
-        Entry::Settle { line: _ } => 0,
+        _ => 0,
     }
 }

@@ -3,11 +3,13 @@
 
 mod effect;
 mod entry;
+mod law;
 mod log;
 mod names;
 mod summary;
 mod track;
 
+pub use law::{texts_go_on, the_log_determines_the_history, what_is_complete_is_begun};
 pub use log::log_text;
 pub use names::{hex_text, init_name};
 pub use summary::summary_text;

@@ -1,13 +1,13 @@
 // The names of the texts.
 ghost use Rattle.std.specs.Prelude.{◌≡◌, IfOk, string_bytes};
-ghost use Rattle.output_order.specs.Log.{hex_text as hex_text_of, verdict_name as verdict_name_of, status_name as status_name_of, error_name as error_name_of, init_name as init_name_of};
+ghost use Rattle.output_order.specs.Log.{hex_text, verdict_name, status_name, error_name, init_name};
 
 use eme_types::{DomError, InitKind, Status, Verdict};
 use std::alloc::{AllocError, Global};
 
 /// Lower-case hexadecimal; a dash for no bytes.
 pub fn hex_text(alloc: Global, bytes: &[u8]) -> Result<String, AllocError>
-    ensures { IfOk result (λ s. string_bytes s ≡ hex_text_of bytes.now) }
+    ensures { IfOk result (λ s. string_bytes s ≡ hex_text bytes.now) }
 {
     if bytes.is_empty() {
         return String::from_str(alloc, "-");
@@ -16,7 +16,7 @@ pub fn hex_text(alloc: Global, bytes: &[u8]) -> Result<String, AllocError>
 }
 
 pub fn verdict_name(verdict: Verdict) -> &'static str
-    ensures { result.now ≡ verdict_name_of verdict }
+    ensures { result.now ≡ verdict_name verdict }
 {
     match verdict {
         Verdict::Taken => "taken",
@@ -26,7 +26,7 @@ pub fn verdict_name(verdict: Verdict) -> &'static str
 
 /// MediaKeyStatus.
 pub fn status_name(status: Status) -> &'static str
-    ensures { result.now ≡ status_name_of status }
+    ensures { result.now ≡ status_name status }
 {
     match status {
         Status::Usable => "usable",
@@ -36,7 +36,7 @@ pub fn status_name(status: Status) -> &'static str
 }
 
 pub fn error_name(error: DomError) -> &'static str
-    ensures { result.now ≡ error_name_of error }
+    ensures { result.now ≡ error_name error }
 {
     match error {
         DomError::InvalidState => "InvalidStateError",
@@ -49,7 +49,7 @@ pub fn error_name(error: DomError) -> &'static str
 
 /// The name of an initialization data type (W3C Initialization Data Format Registry).
 pub fn init_name(kind: InitKind) -> &'static str
-    ensures { result.now ≡ init_name_of kind }
+    ensures { result.now ≡ init_name kind }
 {
     match kind {
         InitKind::Cenc => "cenc",

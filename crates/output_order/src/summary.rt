@@ -1,9 +1,9 @@
 // The summary of a history.
-ghost use Rattle.std.specs.Prelude.{◌≡◌, ◌+◌, ◌≤◌, IfOk, string_bytes, length, count_by, not};
-ghost use Rattle.cdm_state.specs.Settlements.{is_call as is_call_of, calls_in};
+ghost use Rattle.std.specs.Prelude.{◌≡◌, ◌+◌, ◌≤◌, IfOk, string_bytes, length, count_by};
+ghost use Rattle.cdm_state.specs.Settlements.{is_call, calls_in};
 ghost use Rattle.cdm_world.specs.Tracks.{find_track};
 ghost use Rattle.cdm_state.specs.History.{world};
-ghost use Rattle.output_order.specs.Summary.{is_resolved as is_resolved_of, is_rejected as is_rejected_of, resolves as resolves_of, rejects as rejects_of, times_resolved, times_rejected, waits, yes_or_no, track_line, summary_head, summary_of};
+ghost use Rattle.output_order.specs.Summary.{is_rejected, resolves, rejects, times_resolved, times_rejected, waits, yes_or_no, track_line, summary_head, summary_of};
 
 use crate::log::effects_at;
 use crate::track::{Sizes, sizes_out};
@@ -12,60 +12,47 @@ use eme_types::{Bytes, Effect, Entry, Settled};
 use std::alloc::{AllocError, Global};
 
 fn is_rejected(how: &Settled) -> bool
-    ensures rejected { result ≡ is_rejected_of how.now }
-    ensures resolved { not result ≡ is_resolved_of how.now }
+    ensures { result ≡ is_rejected how.now }
 {
     match how {
-        Settled::Resolved => false,
-        Settled::ResolvedFalse => false,
-        Settled::ResolvedConfig(_) => false,
         Settled::Rejected(_) => true,
+        _ => false,
     }
 }
 
 fn resolves(effect: &Effect) -> bool
-    ensures { result ≡ resolves_of effect.now }
+    ensures { result ≡ resolves effect.now }
 {
     match effect {
-        Effect::Statuses {
-            session: _,
-            list: _,
-        } => false,
-        Effect::Closed { session: _ } => false,
         Effect::Promise { promise: _, how } => !is_rejected(how),
-        Effect::Fired { event: _ } => false,
+        _ => false,
     }
 }
 
 fn rejects(effect: &Effect) -> bool
-    ensures { result ≡ rejects_of effect.now }
+    ensures { result ≡ rejects effect.now }
 {
     match effect {
-        Effect::Statuses {
-            session: _,
-            list: _,
-        } => false,
-        Effect::Closed { session: _ } => false,
         Effect::Promise { promise: _, how } => is_rejected(how),
-        Effect::Fired { event: _ } => false,
+        _ => false,
     }
 }
 
 fn count_resolved(effects: &[Effect]) -> usize
-    ensures { result ≡ count_by resolves_of effects.now }
+    ensures { result ≡ count_by resolves effects.now }
 {
     effects.iter().filter(|effect| resolves(effect)).count()
 }
 
 fn count_rejected(effects: &[Effect]) -> usize
-    ensures { result ≡ count_by rejects_of effects.now }
+    ensures { result ≡ count_by rejects effects.now }
 {
     effects.iter().filter(|effect| rejects(effect)).count()
 }
 
 /// 1 for a call, 0 for another entry.
 fn calls_of(entry: &Entry) -> u64
-    ensures { result ≡ is_call_of entry.now }
+    ensures { result ≡ is_call entry.now }
 {
     match entry {
         Entry::Call {

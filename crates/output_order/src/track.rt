@@ -12,15 +12,15 @@ use std::alloc::{AllocError, Global};
 pub fn track_bytes(alloc: Global, cdm: &Cdm, track: u32) -> Result<Bytes, AllocError>
     ensures { IfOk result (λ joined. joined ≡ file_of cdm.now.tracks cdm.now.history track) }
 {
-    let mut joined = Bytes::new(alloc);
-    for index in 0..u32::MAX {
+    let Sizes { samples, bytes } = sizes_out(cdm, track)?;
+    let mut joined = Bytes::with_capacity(alloc, bytes as usize)?;
+    for index in 0..samples {
         match cdm.output(track, index) {
             Some(bytes) => joined.extend_from_slice(bytes)?,
-            None => return Ok(joined),
+            None => unreachable!(),
         }
     }
-    // No memory holds so many samples.
-    Err(AllocError)
+    Ok(joined)
 }
 
 /// How many samples are out on a track, and how many bytes they have.

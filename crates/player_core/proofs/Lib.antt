@@ -10,3 +10,7 @@ pub mod OneLive
 pub mod Next
 pub mod Asked
 pub mod TheOne
+pub mod LiveClaims
+pub mod Queued
+pub mod Weights
+pub mod Lowers

@@ -1,5 +1,5 @@
 -- Steps, one after the other.
-use Rattle.std.proofs.Common.{zero, suc, ◌≡◌, ℕ, ◌+◌, ◌-◌, List, [], ◌∷◌, ◌++◌, Some, length, slice_get, inl, inr, refl, ap, ◌∙◌, sym, subst, append_assoc, append-nil, length-append, arith}
+use Rattle.std.proofs.Common.{zero, suc, ◌≡◌, ℕ, ◌+◌, ◌-◌, ◌<◌, List, [], ◌∷◌, ◌++◌, Some, length, slice_get, inl, inr, refl, ap, ◌∙◌, sym, subst, append_assoc, append-nil, length-append, arith}
 use Rattle.std.specs.Prelude.{◌⊎◌}
 use Rattle.std.specs.List.{AllByRecursion}
 use Rattle.std.proofs.lemmas.List.Sums.{fold-append}
@@ -16,7 +16,7 @@ use Rattle.cdm_state.specs.History.{world, AtRest, Undelivered, MayClaim, MayPub
 use Rattle.cdm_state.specs.Run.{Run, with_entry}
 use Rattle.cdm_state.specs.Progress.{NoneWaits, NothingToDo}
 use Rattle.player_core.specs.Alone.{LastAsked, InTurn, AreInTurn}
-use Rattle.player_core.specs.Course.{IsStep, more_history, Steps, Goes, Settles}
+use Rattle.player_core.specs.Course.{IsStep, more_history, Steps, Moves, Goes, Settles}
 use Rattle.player_core.proofs.Turns.{turns_more}
 
 pub all_append : {X : Type 0} (P : X → Type 0) (xs ys : List X) → AllByRecursion P xs → AllByRecursion P ys → AllByRecursion P (xs ++ ys)
@@ -92,14 +92,20 @@ turns_in : (old mid new : Run) (e : Entry) → mid ≡ old → new ≡ with_entr
 turns_in old mid new e same is turn all =
     subst (λ (r : Run). AreInTurn r.tracks r.history) (sym (is ∙ ap (λ (r : Run). with_entry r e) same)) (turns_more old.tracks old.history e all turn)
 
-pub step_one : (old mid new : Run) (e : Entry) → mid ≡ old → new ≡ with_entry mid e → IsStep e → IsPlain e → InTurn old.tracks old.history e → Steps old new
-step_one old mid new e same is one plain turn = record {
-  taken = e ∷ [];
-  is = is ∙ ap (λ (r : Run). with_entry r e) same;
-  steps = (one, tt);
-  delivered = delivered_in old mid new e same is plain;
-  turns = λ all. turns_in old mid new e same is turn all;
-}
+longer : (h es g : List Entry) → g ≡ h ++ es → 0 < length es → length h < length g
+longer h es g is some = let many = ap length is ∙ length-append h es in omega (arith, many, some)
+
+pub step_one : (old mid new : Run) (e : Entry) → mid ≡ old → new ≡ with_entry mid e → IsStep e → IsPlain e → InTurn old.tracks old.history e → Moves old new
+step_one old mid new e same is one plain turn =
+    let here : new ≡ with_entry old e = is ∙ ap (λ (r : Run). with_entry r e) same in
+    let steps : Steps old new = record {
+      taken = e ∷ [];
+      is = here;
+      steps = (one, tt);
+      delivered = delivered_in old mid new e same is plain;
+      turns = λ all. turns_in old mid new e same is turn all;
+    } in
+    (steps, longer old.history (e ∷ []) new.history (ap (λ (r : Run). r.history) here) (omega arith))
 
 pub steps_none : (r : Run) → Steps r r
 steps_none r = record {
@@ -120,19 +126,20 @@ steps_more old mid new a b = record {
 }
 
 -- a claim and its delivery
-two_steps : (old mid claimed new : Run) (e : Entry) (place : ℕ) (verdict : Verdict) → mid ≡ old → claimed ≡ with_entry mid e → new ≡ with_entry claimed (Deliver place verdict) → place ≡ length mid.history + 1 → IsStep e → InTurn old.tracks old.history e → Steps old new
+two_steps : (old mid claimed new : Run) (e : Entry) (place : ℕ) (verdict : Verdict) → mid ≡ old → claimed ≡ with_entry mid e → new ≡ with_entry claimed (Deliver place verdict) → place ≡ length mid.history + 1 → IsStep e → InTurn old.tracks old.history e → Moves old new
 two_steps old mid claimed new e place verdict same is then here one turn =
     let all : new ≡ with_entry (with_entry old e) (Deliver place verdict) = then ∙ ap (λ (r : Run). with_entry r (Deliver place verdict)) (is ∙ ap (λ (r : Run). with_entry r e) same) in
     let at : place ≡ length old.history + 1 = here ∙ ap (λ (r : Run). length r.history + 1) same in
-    record {
+    let steps : Steps old new = record {
       taken = e ∷ (Deliver place verdict ∷ []);
       is = all ∙ more_twice old (e ∷ []) (Deliver place verdict ∷ []);
       steps = (one, (tt, tt));
       delivered = λ none. subst (λ (r : Run). NoneWaits r.history) (sym all) (both_wait old.history e place verdict at none);
       turns = λ before. subst (λ (r : Run). AreInTurn r.tracks r.history) (sym all) (turns_more old.tracks (old.history ++ e ∷ []) (Deliver place verdict) (turns_more old.tracks old.history e before turn) (at ∙ sym (length-append old.history (e ∷ []))));
-    }
+    } in
+    (steps, longer old.history (e ∷ (Deliver place verdict ∷ [])) new.history (ap (λ (r : Run). r.history) steps.is) (omega arith))
 
-pub claim_steps : (old mid claimed new : Run) (e : Entry) (place : ℕ) (clear : List ℕ) (how : Delivered) → mid ≡ old → claimed ≡ with_entry mid e → place ≡ length mid.history + 1 → IsStep e → InTurn old.tracks old.history e → Delivers claimed place clear how new → Steps old new
+pub claim_steps : (old mid claimed new : Run) (e : Entry) (place : ℕ) (clear : List ℕ) (how : Delivered) → mid ≡ old → claimed ≡ with_entry mid e → place ≡ length mid.history + 1 → IsStep e → InTurn old.tracks old.history e → Delivers claimed place clear how new → Moves old new
 claim_steps old mid claimed new e place clear Taken same is here one turn did = two_steps old mid claimed new e place TakenVerdict same is did.1 here one turn
 claim_steps old mid claimed new e place clear (Stale back) same is here one turn did = two_steps old mid claimed new e place StaleVerdict same is did.1 here one turn
 

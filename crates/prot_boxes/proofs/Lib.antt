@@ -5,7 +5,6 @@ pub mod SchmAgain
 pub mod AuxAgain
 pub mod GroupsAgain
 pub mod SencAgain
-pub mod Bounds
 pub mod Few
 pub mod SinfGathered
 pub mod SinfAgain

@@ -23,10 +23,6 @@ use Rattle.prot_boxes.proofs.TencAgain.{tenc_again}
 abbrev pub schm_of : Scheme → Schm
 schm_of scheme = record { kind = scheme_code scheme; version = 65536 }
 
-code_length : (scheme : Scheme) → length (scheme_code scheme) ≡ 4
-code_length Cenc = refl
-code_length Cbcs = refl
-
 schm_length : (scheme : Scheme) → length (schm_body (schm_of scheme)) ≡ 12
 unfolding schm_body
 schm_length Cenc = refl

@@ -1,21 +1,16 @@
 -- A sinf is gathered box after box.
-use Rattle.std.proofs.Common.{◌≡◌, ◌⊎◌, inl, inr, ℕ, true, List, [], ◌∷◌, Option, Some, None, Result, Err, refl, ◌∙◌}
+use Rattle.std.proofs.Common.{◌≡◌, ◌⊎◌, inl, inr, ℕ, List, [], ◌∷◌, None, Result, Err, refl, ◌∙◌}
 use Rattle.std.specs.Prelude.{is_some}
 use Rattle.iso_boxes.specs.Walk.{Found, Walked, before, inside}
-use Rattle.iso_boxes.specs.Children.{first}
-use Rattle.iso_boxes.proofs.Gathering.{Reader, Gathers, left, ends, stops}
+use Rattle.iso_boxes.proofs.Gathering.{Reader, Gathers, left, ends, stops, chosen, chosen_more, chosen_none, known_more}
 use Rattle.prot_boxes.specs.declared.fault.ProtFault.{ProtFault}
 use Rattle.prot_boxes.specs.declared.sinf.Sinf.{Sinf}
 use Rattle.prot_boxes.specs.declared.sinf.SinfPart.{SinfPart}
 use Rattle.prot_boxes.specs.declared.sinf.SinfPart.TheVariants as part
 use Rattle.prot_boxes.specs.declared.sinf.SinfParts.{SinfParts}
 use Rattle.prot_boxes.specs.Answers.{header_fault}
-use Rattle.prot_boxes.specs.Gathering.{first_or, added}
+use Rattle.prot_boxes.specs.Gathering.{added}
 use Rattle.prot_boxes.specs.Sinf.{Seen, part_at, learn, schms, schis, sinf_of, sinf_at}
-
-abbrev chosen : {A : Type 0} → Option A → List A → Option A
-chosen None xs = first xs
-chosen (Some x) xs = Some x
 
 abbrev closing : ℕ → SinfParts → List SinfPart → Result Sinf ProtFault
 closing place s ps = sinf_of place (chosen s.schm (schms ps)) (chosen s.schi (schis ps))
@@ -26,26 +21,14 @@ known s = record { schm = is_some s.schm; schi = is_some s.schi }
 abbrev pub sinf_reader : ℕ → Reader ProtFault SinfPart Seen SinfParts Sinf
 sinf_reader place = record { header = header_fault; read = part_at; learn = learn; know = known; add = added; finish = closing place }
 
-first_known : {A : Type 0} (o : Option A) (x : A) → is_some (first_or o x) ≡ true
-first_known None x = refl
-first_known (Some y) x = refl
-
-first_chosen : {A : Type 0} (o : Option A) (x : A) (xs : List A) → chosen o (x ∷ xs) ≡ chosen (first_or o x) xs
-first_chosen None x xs = refl
-first_chosen (Some y) x xs = refl
-
-none_more : {A : Type 0} (o : Option A) → chosen o [] ≡ o
-none_more None = refl
-none_more (Some x) = refl
-
 knows : (s : SinfParts) (p : SinfPart) → known (added s p) ≡ learn (known s) p
-knows s (part.Scheme x) = rw (first_known s.schm x) refl
-knows s (part.Info x) = rw (first_known s.schi x) refl
+knows s (part.Scheme x) = rw (known_more s.schm x) refl
+knows s (part.Info x) = rw (known_more s.schi x) refl
 knows s part.Other = refl
 
 adds : (place : ℕ) (s : SinfParts) (p : SinfPart) (ps : List SinfPart) → closing place s (p ∷ ps) ≡ closing place (added s p) ps
-adds place s (part.Scheme x) ps = rw (first_chosen s.schm x (schms ps)) refl
-adds place s (part.Info x) ps = rw (first_chosen s.schi x (schis ps)) refl
+adds place s (part.Scheme x) ps = rw (chosen_more s.schm x (schms ps)) refl
+adds place s (part.Info x) ps = rw (chosen_more s.schi x (schis ps)) refl
 adds place s part.Other ps = refl
 
 pub sinf_gathers : (place : ℕ) → Gathers (sinf_reader place)
@@ -56,7 +39,7 @@ unfolding left sinf_at
 sinf_starts b = refl
 
 pub sinf_ends : (place : ℕ) (s : SinfParts) (w : Walked) (total : Result Sinf ProtFault) → w ≡ record { boxes = []; fault = None } → left (sinf_reader place) s w ≡ total → total ≡ sinf_of place s.schm s.schi
-sinf_ends place s w total e so_far = ends (sinf_reader place) s w total e so_far ∙ rw (none_more s.schm, none_more s.schi) refl
+sinf_ends place s w total e so_far = ends (sinf_reader place) s w total e so_far ∙ rw (chosen_none s.schm, chosen_none s.schi) refl
 
 definite : {A : Type 0} (x y : A) → ⊥ ⊎ (x ≡ y) → x ≡ y
 definite x y (inl never) = absurd never

@@ -1,20 +1,20 @@
 -- What readers and writers of boxes answer.
-use Rattle.std.specs.Prelude.{◌≡◌, ◌⊎◌, ℕ, ◌+◌, Bool, List, ◌++◌, length, drop, Result, Ok, Err}
+use Rattle.std.specs.Prelude.{◌≡◌, ℕ, ◌+◌, Bool, List, ◌++◌, length, drop, Result, Ok, Err}
 use Rattle.iso_boxes.specs.declared.walk.BoxFault.{BoxFault}
-use Rattle.iso_boxes.specs.declared.walk.BoxFault.TheVariants as broken
+use Rattle.eme_types.specs.FirstFault as first_fault
+use Rattle.iso_boxes.specs.Children.{broken_header}
 use Rattle.iso_boxes.specs.Walk.{Found, before, walk}
 use Rattle.prot_boxes.specs.declared.fault.ProtKind.{ProtKind}
 use Rattle.prot_boxes.specs.declared.fault.ProtKind.TheVariants.{Short, SizeTooSmall, PastEnd, OutOfMemory}
 use Rattle.prot_boxes.specs.declared.fault.ProtFault.{ProtFault}
 
+-- a broken rule at a place
 abbrev pub fault_at : ℕ → ProtKind → ProtFault
 fault_at place kind = record { place = place; kind = kind }
 
 -- a broken header inside a box
 abbrev pub header_fault : BoxFault → ProtFault
-header_fault (broken.Short place) = fault_at place Short
-header_fault (broken.SizeTooSmall place) = fault_at place SizeTooSmall
-header_fault (broken.PastEnd place) = fault_at place PastEnd
+header_fault f = broken_header fault_at Short SizeTooSmall PastEnd f
 
 -- what was answered, seen by view, is what is read
 abbrev pub Reads : {X Y : Type 0} → (X → Y) → Result X ProtKind → Result Y ProtKind → Type 0
@@ -23,12 +23,11 @@ Reads view (Err e) read = read ≡ Err e
 
 -- the same, unless memory ran out
 abbrev pub Gives : {X Y : Type 0} → (X → Y) → Result X ProtKind → Result Y ProtKind → Type 0
-Gives view (Ok x) read = read ≡ Ok (view x)
-Gives view (Err e) read = (e ≡ OutOfMemory) ⊎ (read ≡ Err e)
+Gives view result read = first_fault.Gives (λ e. e ≡ OutOfMemory) view result read
 
+-- the same of a whole box
 abbrev pub GivesBox : {X : Type 0} → Result X ProtFault → Result X ProtFault → Type 0
-GivesBox (Ok x) read = read ≡ Ok x
-GivesBox (Err e) read = (e.kind ≡ OutOfMemory) ⊎ (read ≡ Err e)
+GivesBox result read = first_fault.Gives (λ e. e.kind ≡ OutOfMemory) (λ x. x) result read
 
 -- behind the old bytes stands one box, and it is read as this record, whatever follows it and wherever the bytes stand
 abbrev pub IsReadAgain : {X : Type 0} → (Found → Result X ProtFault) → List ℕ → List ℕ → X → Type 0

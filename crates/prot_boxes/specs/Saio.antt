@@ -16,6 +16,7 @@ use Rattle.prot_boxes.specs.declared.saio.Saio.{Saio}
 abbrev pub offset : ℕ → Reading ProtKind ℕ
 offset version = if version == 0 then number Short w32 else number Short w64
 
+-- the counted offsets, of any version
 unfoldable pub saio_fields : Reading ProtKind Saio
 saio_fields = do
   version ← number Short w8
@@ -25,11 +26,13 @@ saio_fields = do
   offsets ← repeated count (offset version)
   yield (record { kind = kind; offsets = offsets })
 
+-- a saio
 abbrev pub saio_at : Found → Result Saio ProtFault
 saio_at b = placed (fault_at b.place) (saio_fields b.body)
 
 -- ---- writing
 
+-- an offset of 64 bits
 abbrev pub offset_body : ℕ → List ℕ
 offset_body n = to_be_bytes w64 n
 

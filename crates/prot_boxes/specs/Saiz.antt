@@ -15,6 +15,7 @@ use Rattle.prot_boxes.specs.declared.saiz.Saiz.{Saiz}
 abbrev pub sizes_if : ℕ → ℕ → Reading ProtKind (List ℕ)
 sizes_if default count = if default == 0 then some_bytes Short count else yield []
 
+-- a default size, or the size of each counted sample
 unfoldable pub saiz_fields : Reading ProtKind Saiz
 saiz_fields = do
   version ← number Short w8
@@ -25,11 +26,13 @@ saiz_fields = do
   sizes ← sizes_if default count
   yield (record { kind = kind; default_size = default; count = count; sizes = sizes })
 
+-- a saiz
 abbrev pub saiz_at : Found → Result Saiz ProtFault
 saiz_at b = placed (fault_at b.place) (saiz_fields b.body)
 
 -- ---- writing
 
+-- version 0
 unfoldable pub saiz_body : Saiz → List ℕ
 saiz_body s = 0 ∷ 0 ∷ 0 ∷ aux_flags s.kind ∷ (aux_body s.kind ++ (s.default_size ∷ (to_be_bytes w32 s.count ++ s.sizes)))
 

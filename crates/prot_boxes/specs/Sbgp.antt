@@ -12,6 +12,7 @@ use Rattle.prot_boxes.specs.declared.fault.ProtKind.TheVariants.{Short}
 use Rattle.prot_boxes.specs.declared.sbgp.SbgpItem.{SbgpItem}
 use Rattle.prot_boxes.specs.declared.sbgp.Sbgp.{Sbgp}
 
+-- a number of 32 bits
 abbrev pub u32 : Reading ProtKind ℕ
 u32 = number Short w32
 
@@ -38,11 +39,13 @@ sbgp_fields = do
   kind ← some_bytes Short 4
   given (bytes_eq kind (codes "seig")) (items version)
 
+-- an sbgp; none where it groups by another type
 abbrev pub sbgp_at : Found → Result (Option Sbgp) ProtFault
 sbgp_at b = placed (fault_at b.place) (sbgp_fields b.body)
 
 -- ---- writing
 
+-- a count and the index of a group
 abbrev pub item_body : SbgpItem → List ℕ
 item_body i = to_be_bytes w32 i.count ++ to_be_bytes w32 i.index
 

@@ -10,6 +10,7 @@ use Rattle.prot_boxes.specs.declared.fault.ProtKind.{ProtKind}
 use Rattle.prot_boxes.specs.declared.fault.ProtKind.TheVariants.{Short}
 use Rattle.prot_boxes.specs.declared.schm.Schm.{Schm}
 
+-- the scheme's type and version
 unfoldable pub schm_fields : Reading ProtKind Schm
 schm_fields = do
   version ← number Short w8
@@ -18,11 +19,13 @@ schm_fields = do
   scheme_version ← number Short w32
   yield (record { kind = kind; version = scheme_version })
 
+-- a schm
 abbrev pub schm_at : Found → Result Schm ProtFault
 schm_at b = placed (fault_at b.place) (schm_fields b.body)
 
 -- ---- writing
 
+-- version 0 and no flag
 unfoldable pub schm_body : Schm → List ℕ
 schm_body s = 0 ∷ 0 ∷ 0 ∷ 0 ∷ [] ++ s.kind ++ to_be_bytes w32 s.version
 

@@ -8,6 +8,7 @@ use Rattle.prot_boxes.specs.declared.fault.ProtKind.{ProtKind}
 use Rattle.prot_boxes.specs.declared.fault.ProtKind.TheVariants.{Short, IsProtected, IvSize}
 use Rattle.prot_boxes.specs.declared.seig.Seig.{Seig}
 
+-- a number of 8 bits
 abbrev pub u8 : Reading ProtKind ℕ
 u8 = number Short w8
 
@@ -23,9 +24,11 @@ iv_size = do
   size ← u8
   if size == 0 || (size == 8 || size == 16) then yield size else broken IvSize
 
+-- an IV of 8 bytes
 unfoldable pub eight : Reading ProtKind Iv
 eight = some_bytes Short 8 >>= λ iv. yield (Eight iv)
 
+-- an IV of 16 bytes
 unfoldable pub sixteen : Reading ProtKind Iv
 sixteen = some_bytes Short 16 >>= λ iv. yield (Sixteen iv)
 
@@ -48,6 +51,7 @@ seig_fields = do
 
 -- ---- writing
 
+-- a constant IV behind its size, where there is one
 abbrev pub constant_body : Option Iv → List ℕ
 constant_body None = []
 constant_body (Some (Eight iv)) = 8 ∷ iv

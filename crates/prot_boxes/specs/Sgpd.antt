@@ -15,6 +15,7 @@ use Rattle.prot_boxes.specs.declared.fault.ProtKind.TheVariants.{Short, Version}
 use Rattle.prot_boxes.specs.declared.seig.Seig.{Seig}
 use Rattle.prot_boxes.specs.declared.sgpd.Sgpd.{Sgpd}
 
+-- a number of 32 bits
 abbrev pub u32 : Reading ProtKind ℕ
 u32 = number Short w32
 
@@ -31,6 +32,7 @@ abbrev pub entry : Option ℕ → Reading ProtKind Seig
 entry None = seig_fields
 entry (Some default) = if default == 0 then entry_with_length else entry_within default
 
+-- the counted entries of version 0 or 1
 unfoldable pub entries : ℕ → Reading ProtKind Sgpd
 entries version =
     if nat_lt 1 version then broken Version
@@ -48,16 +50,19 @@ sgpd_fields = do
   kind ← some_bytes Short 4
   given (bytes_eq kind (codes "seig")) (entries version)
 
+-- an sgpd; none where it groups by another type
 abbrev pub sgpd_at : Found → Result (Option Sgpd) ProtFault
 sgpd_at b = placed (fault_at b.place) (sgpd_fields b.body)
 
 -- ---- writing
 
+-- the bytes of an entry with this constant IV
 abbrev pub entry_length : Option Iv → ℕ
 entry_length None = 20
 entry_length (Some (Eight iv)) = 29
 entry_length (Some (Sixteen iv)) = 37
 
+-- an entry behind its length
 abbrev pub entry_body : Seig → List ℕ
 entry_body s = to_be_bytes w32 (entry_length s.constant) ++ seig_body s
 
@@ -65,6 +70,7 @@ entry_body s = to_be_bytes w32 (entry_length s.constant) ++ seig_body s
 unfoldable pub sgpd_body : Sgpd → List ℕ
 sgpd_body s = 1 ∷ 0 ∷ 0 ∷ 0 ∷ (codes "seig" ++ (to_be_bytes w32 0 ++ (to_be_bytes w32 (length s.entries % 2 ^ 32) ++ flat_map entry_body s.entries)))
 
+-- a record that these fields can say
 pub record IsCanonical (s : Sgpd) : Type 0 where
   pub count : length s.entries < 2 ^ 32
   pub entries : All SuitsSeig s.entries

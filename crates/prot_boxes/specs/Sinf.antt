@@ -25,9 +25,11 @@ use Rattle.prot_boxes.specs.declared.sinf.SinfPart.TheVariants as part
 
 -- ---- the children
 
+-- the types of boxes that are read here
 unfoldable pub sinf_box : List ℕ → SinfBox
 sinf_box kind = if bytes_eq kind (codes "schm") then sinf.Schm else if bytes_eq kind (codes "schi") then sinf.Schi else sinf.Other
 
+-- a tenc and where it stands
 abbrev pub held_at : Found → Result Held ProtFault
 held_at b = tenc_at b >>= λ t. Ok (record { place = b.place; tenc = t })
 
@@ -46,19 +48,23 @@ part_as sinf.Schm seen b = if seen.schm then Ok part.Other else (schm_at b >>= �
 part_as sinf.Schi seen b = if seen.schi then Ok part.Other else (schi_at b >>= λ s. Ok (part.Info s))
 part_as sinf.Other seen b = Ok part.Other
 
+-- what is read of one box by its type
 abbrev pub part_at : Seen → Found → Result SinfPart ProtFault
 part_at seen b = part_as (sinf_box b.kind) seen b
 
+-- what is among what was read, with this part
 abbrev pub learn : Seen → SinfPart → Seen
 learn seen (part.Scheme s) = record seen { schm = true }
 learn seen (part.Info s) = record seen { schi = true }
 learn seen part.Other = seen
 
+-- its schm
 abbrev pub schms : List SinfPart → List Schm
 schms [] = []
 schms (part.Scheme s ∷ ps) = s ∷ schms ps
 schms (_ ∷ ps) = schms ps
 
+-- its schi
 abbrev pub schis : List SinfPart → List Schi
 schis [] = []
 schis (part.Info s ∷ ps) = s ∷ schis ps
@@ -66,17 +72,21 @@ schis (_ ∷ ps) = schis ps
 
 -- ---- the rules at the end
 
+-- the scheme of a type: cenc or cbcs
 unfoldable pub named : Schm → Option Scheme
 named s = if bytes_eq s.kind (codes "cenc") then Some Cenc else if bytes_eq s.kind (codes "cbcs") then Some Cbcs else None
 
+-- the scheme, where a schm names one
 abbrev pub scheme_of : Option Schm → Option Scheme
 scheme_of None = None
 scheme_of (Some s) = named s
 
+-- the tenc of a schi, where there is one
 abbrev pub held_in : Option Schi → Option Held
 held_in None = None
 held_in (Some s) = s.tenc
 
+-- a constant IV of 8 bytes
 abbrev pub is_eight : Option Iv → Bool
 is_eight None = false
 is_eight (Some (Eight iv)) = true
@@ -90,10 +100,12 @@ cbcs_rules t =
     else if t.crypt == 0 && not (t.skip == 0) then Err Pattern
     else Ok t
 
+-- what a scheme asks of a tenc
 abbrev pub scheme_rules : Scheme → Tenc → Result Tenc ProtKind
 scheme_rules Cenc t = Ok t
 scheme_rules Cbcs t = cbcs_rules t
 
+-- a broken rule of the scheme has the place of the tenc
 abbrev pub ruled : ℕ → Result Tenc ProtKind → Result Tenc ProtFault
 ruled place (Ok t) = Ok t
 ruled place (Err k) = Err (fault_at place k)
@@ -106,11 +118,13 @@ sinf_of place schm schi = do
   tenc ← ruled held.place (scheme_rules scheme held.tenc)
   Ok (record { scheme = scheme; tenc = tenc })
 
+-- a sinf
 unfoldable pub sinf_at : Found → Result Sinf ProtFault
 sinf_at b = all_knowing header_fault part_at learn (record { schm = false; schi = false }) (inside b) >>= λ ps. sinf_of b.place (first (schms ps)) (first (schis ps))
 
 -- ---- writing
 
+-- the type that names a scheme
 abbrev pub scheme_code : Scheme → List ℕ
 scheme_code Cenc = codes "cenc"
 scheme_code Cbcs = codes "cbcs"

@@ -31,11 +31,13 @@ tenc_fields = do
     constant = s.constant;
   })
 
+-- a tenc
 abbrev pub tenc_at : Found → Result Tenc ProtFault
 tenc_at b = placed (fault_at b.place) (tenc_fields b.body)
 
 -- ---- writing
 
+-- what a tenc says of protection, as a group does
 abbrev pub seig_of : Tenc → Seig
 seig_of t = record {
   crypt = patterned t.version t.crypt;
@@ -46,6 +48,7 @@ seig_of t = record {
   constant = t.constant;
 }
 
+-- the reserved bits are 0
 unfoldable pub tenc_body : Tenc → List ℕ
 tenc_body t = t.version ∷ 0 ∷ 0 ∷ 0 ∷ seig_body (seig_of t)
 

@@ -21,7 +21,7 @@ pub use saiz::{Saiz, put_saiz, read_saiz};
 pub use sbgp::{Sbgp, SbgpItem, SbgpItems, put_sbgp, read_sbgp};
 pub use schm::{Schm, put_schm, read_schm};
 pub use seig::Seig;
-pub use senc::{Senc, SencItem, SencItems, put_senc, read_senc};
+pub use senc::{Senc, SencItem, SencItems, put_senc, read_senc, read_senc_item};
 pub use sgpd::{Seigs, Sgpd, put_sgpd, read_sgpd};
 pub use sinf::{Sinf, put_sinf, read_sinf};
 pub use tenc::{Tenc, put_tenc, read_tenc};

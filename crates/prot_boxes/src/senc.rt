@@ -80,8 +80,10 @@ fn read_subs_if(alloc: Global, flag2: bool, rest: &[u8]) -> Result<(Subs, &[u8])
     read_subs(alloc, count, rest)
 }
 
+/// Reads what a sample has of its own: an IV of `size` bytes (0, 8 or 16), then its subsamples where flag 2 is set. Behind it
+/// stand the bytes that were not read.
 #[tactic(auto, unfolding(crate::specs::Senc::item))]
-fn read_item(
+pub fn read_senc_item(
     alloc: Global,
     flag2: bool,
     size: u8,
@@ -105,7 +107,7 @@ fn read_items<'a>(
     let mut items = Items::new(alloc);
     let mut rest = bytes;
     for size in sizes {
-        let (item, after) = read_item(alloc, flag2, *size, rest)?;
+        let (item, after) = read_senc_item(alloc, flag2, *size, rest)?;
         items.push(item)?;
         rest = after;
     }

@@ -4,29 +4,29 @@ use Rattle.std.specs.Prelude.{ℤ, pos, ◌+ℤ◌}
 use Rattle.std.proofs.lemmas.List.{append-nil}
 use Rattle.prot_boxes.specs.declared.saiz.Saiz.{Saiz}
 use Rattle.frag_boxes.specs.declared.records.Trun.{Trun}
-use Rattle.sample_aux.specs.declared.sample_data.DataSpot.{DataSpot}
+use Rattle.sample_aux.specs.declared.sample_data.DataRange.{DataRange}
 use Rattle.sample_aux.specs.Auxiliary.{size_at, offset_of, follow, by_run}
 
-pub one_more : (s : Saiz) (at : ℤ) (k end : ℕ) (front total : List DataSpot) → k < end → front ++ follow s at k (end - k) ≡ total
+pub one_more : (s : Saiz) (at : ℤ) (k end : ℕ) (front total : List DataRange) → k < end → front ++ follow s at k (end - k) ≡ total
     → (front ++ record { at = at; size = size_at s k } ∷ []) ++ follow s (at +ℤ pos (size_at s k)) (k + 1) (end - (k + 1)) ≡ total
 unfolding follow
 one_more s at k end front total lt so_far =
     let e : end - k ≡ suc (end - (k + 1)) = omega arith in
     simp append_assoc (rw e at so_far)
 
-pub finished : (s : Saiz) (at : ℤ) (k end : ℕ) (front total : List DataSpot) → end ≤ k → front ++ follow s at k (end - k) ≡ total → front ≡ total
+pub finished : (s : Saiz) (at : ℤ) (k end : ℕ) (front total : List DataRange) → end ≤ k → front ++ follow s at k (end - k) ≡ total → front ≡ total
 unfolding follow
 finished s at k end front total le so_far =
     let e : end - k ≡ 0 = omega arith in
     sym (append-nil front) ∙ (rw e at so_far)
 
-pub one_run : (s : Saiz) (base : ℤ) (offsets : List ℕ) (i k end : ℕ) (run : Trun) (runs : List Trun) (front spots total : List DataSpot) → end ≡ k + run.count
-    → spots ≡ follow s (base +ℤ pos (offset_of offsets i)) k (end - k) → front ++ by_run s base offsets i k (run ∷ runs) ≡ total → (front ++ spots) ++ by_run s base offsets (i + 1) end runs ≡ total
+pub one_run : (s : Saiz) (base : ℤ) (offsets : List ℕ) (i k end : ℕ) (run : Trun) (runs : List Trun) (front ranges total : List DataRange) → end ≡ k + run.count
+    → ranges ≡ follow s (base +ℤ pos (offset_of offsets i)) k (end - k) → front ++ by_run s base offsets i k (run ∷ runs) ≡ total → (front ++ ranges) ++ by_run s base offsets (i + 1) end runs ≡ total
 unfolding by_run
-one_run s base offsets i k end run runs front spots total e h so_far =
+one_run s base offsets i k end run runs front ranges total e h so_far =
     let n : (k + run.count) - k ≡ run.count = omega arith in
     rw (h, e, n) (simp append_assoc so_far)
 
-pub no_run : (s : Saiz) (base : ℤ) (offsets : List ℕ) (i k : ℕ) (front total : List DataSpot) → front ++ by_run s base offsets i k [] ≡ total → front ≡ total
+pub no_run : (s : Saiz) (base : ℤ) (offsets : List ℕ) (i k : ℕ) (front total : List DataRange) → front ++ by_run s base offsets i k [] ≡ total → front ≡ total
 unfolding by_run
 no_run s base offsets i k front total so_far = sym (append-nil front) ∙ so_far

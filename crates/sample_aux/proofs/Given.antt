@@ -1,7 +1,6 @@
 -- Reading up to the first that gives something.
-use Rattle.std.proofs.Common.{◌≡◌, true, false, List, [], ◌∷◌, Option, Some, None, Result, Ok, Err, refl, sym, subst}
+use Rattle.std.proofs.Common.{◌≡◌, true, false, List, [], ◌∷◌, Option, Some, None, Result, Ok, Err, sym, subst}
 use Rattle.std.specs.Prelude.{is_some}
-use Rattle.std.specs.Option.{option_map}
 use Rattle.iso_boxes.specs.Walk.{Found}
 use Rattle.sample_aux.specs.Spans.{first_given}
 
@@ -25,7 +24,3 @@ none_given read total e = sym e
 
 pub of_box : {E A : Type 0} (read : Found → Result (Option A) E) (a b : Found) (r : Result (Option A) E) → a ≡ b → read a ≡ r → read b ≡ r
 of_box read a b r e h = let P : Found → Type 0 = λ x. read x ≡ r in subst P e h
-
-pub same_some : {A B : Type 0} (f : A → B) (o : Option A) → is_some (option_map f o) ≡ is_some o
-same_some f None = refl
-same_some f (Some x) = refl

@@ -1,5 +1,7 @@
 pub mod InOrder
+pub mod ItemsLeft
 pub mod Passes
+pub mod Known
 pub mod Runs
 pub mod Indices
 pub mod Given

@@ -4,10 +4,10 @@ use Rattle.std.specs.Prelude.{◌==◌, if◌then◌else◌, cond, filter}
 use Rattle.iso_boxes.specs.Children.{◌>>=◌}
 use Rattle.eme_types.specs.declared.media.TrackPart.{TrackPart}
 use Rattle.eme_types.specs.Fed.{has_samples}
-use Rattle.frag_boxes.specs.declared.records.Movie.{Movie}
 use Rattle.frag_boxes.specs.declared.records.Traf.{Traf}
 use Rattle.sample_aux.specs.declared.fault.AuxFault.{AuxFault}
-use Rattle.sample_aux.specs.declared.laying.Laying.{Laying}
+use Rattle.sample_aux.specs.declared.protection.MovieProtection.{MovieProtection}
+use Rattle.sample_aux.specs.declared.laying.DataCursor.{DataCursor}
 use Rattle.sample_aux.specs.Resolve.{met, put_part, put_left, all_joined, traf_resolved, trafs_resolved}
 
 abbrev met_as : Bool → TrackPart → TrackPart → TrackPart × Option TrackPart
@@ -34,19 +34,19 @@ go_on : (parts : List TrackPart) (p : TrackPart) (rest : Result (List TrackPart)
 go_on parts p (Ok ps) = refl
 go_on parts p (Err e) = refl
 
-pub one_more : (file : List ℕ) (movie : Movie) (start : ℕ) (l : Laying) (traf : Traf) (trafs : List Traf) (parts : List TrackPart) (p : TrackPart) (next : Laying) (total : Result (List TrackPart) AuxFault)
-    → traf_resolved file movie start l traf ≡ Ok (p, next) → all_joined parts (trafs_resolved file movie start l (traf ∷ trafs)) ≡ total → all_joined (put_part parts p) (trafs_resolved file movie start next trafs) ≡ total
+pub one_more : (file : List ℕ) (known : MovieProtection) (start : ℕ) (l : DataCursor) (traf : Traf) (trafs : List Traf) (parts : List TrackPart) (p : TrackPart) (next : DataCursor) (total : Result (List TrackPart) AuxFault)
+    → traf_resolved file known start l traf ≡ Ok (p, next) → all_joined parts (trafs_resolved file known start l (traf ∷ trafs)) ≡ total → all_joined (put_part parts p) (trafs_resolved file known start next trafs) ≡ total
 unfolding trafs_resolved
-one_more file movie start l traf trafs parts p next total h so_far = sym (go_on parts p (trafs_resolved file movie start next trafs)) ∙ (rw h at so_far)
+one_more file known start l traf trafs parts p next total h so_far = sym (go_on parts p (trafs_resolved file known start next trafs)) ∙ (rw h at so_far)
 
-pub broken_off : (file : List ℕ) (movie : Movie) (start : ℕ) (l : Laying) (traf : Traf) (trafs : List Traf) (parts : List TrackPart) (f : AuxFault) (total : Result (List TrackPart) AuxFault)
-    → traf_resolved file movie start l traf ≡ Err f → all_joined parts (trafs_resolved file movie start l (traf ∷ trafs)) ≡ total → total ≡ Err f
+pub broken_off : (file : List ℕ) (known : MovieProtection) (start : ℕ) (l : DataCursor) (traf : Traf) (trafs : List Traf) (parts : List TrackPart) (f : AuxFault) (total : Result (List TrackPart) AuxFault)
+    → traf_resolved file known start l traf ≡ Err f → all_joined parts (trafs_resolved file known start l (traf ∷ trafs)) ≡ total → total ≡ Err f
 unfolding trafs_resolved
-broken_off file movie start l traf trafs parts f total h so_far = sym (rw h at so_far)
+broken_off file known start l traf trafs parts f total h so_far = sym (rw h at so_far)
 
-pub finished : (file : List ℕ) (movie : Movie) (start : ℕ) (l : Laying) (parts : List TrackPart) (total : Result (List TrackPart) AuxFault) → all_joined parts (trafs_resolved file movie start l []) ≡ total → total ≡ Ok parts
+pub finished : (file : List ℕ) (known : MovieProtection) (start : ℕ) (l : DataCursor) (parts : List TrackPart) (total : Result (List TrackPart) AuxFault) → all_joined parts (trafs_resolved file known start l []) ≡ total → total ≡ Ok parts
 unfolding trafs_resolved
-finished file movie start l parts total so_far = sym so_far
+finished file known start l parts total so_far = sym so_far
 
 -- ---- parts that have samples
 

@@ -16,11 +16,11 @@ use Rattle.frag_boxes.specs.declared.records.Trun.{Trun}
 use Rattle.frag_boxes.specs.declared.records.Traf.{Traf}
 use Rattle.sample_aux.specs.declared.fault.AuxKind.TheVariants.{CountDiffers, AuxSize, OffsetPastEnd, NoAux}
 use Rattle.sample_aux.specs.declared.fault.AuxFault.{AuxFault}
-use Rattle.sample_aux.specs.declared.groups.Rule.{Rule}
+use Rattle.sample_aux.specs.declared.groups.SampleProtection.{SampleProtection}
 use Rattle.sample_aux.specs.declared.auxiliary.Auxiliary.{Auxiliary}
 use Rattle.sample_aux.specs.declared.auxiliary.UsedSaiz.{UsedSaiz}
 use Rattle.sample_aux.specs.declared.auxiliary.UsedSaio.{UsedSaio}
-use Rattle.sample_aux.specs.declared.sample_data.DataSpot.{DataSpot}
+use Rattle.sample_aux.specs.declared.sample_data.DataRange.{DataRange}
 use Rattle.sample_aux.specs.Faults.{fault_at, told}
 use Rattle.sample_aux.specs.Spans.{part_of, boxes_at, first_given}
 use Rattle.sample_aux.specs.InOrder.{each_number}
@@ -30,20 +30,20 @@ use Rattle.sample_aux.specs.Counting.{count_fields}
 -- ---- senc
 
 -- the bytes of a sample's IV: none where it is not protected
-abbrev pub iv_size_of : Option Rule → ℕ
+abbrev pub iv_size_of : Option SampleProtection → ℕ
 iv_size_of None = 0
 iv_size_of (Some r) = r.group.iv_size
 
-abbrev pub unless_zero : Found → ℕ → Option Found
-unless_zero b count = if count == 0 then None else Some b
+-- what a senc says of each sample
+unfoldable pub by_senc : List (Option SampleProtection) → Found → Result Auxiliary AuxFault
+by_senc rules b = told (senc_at (map iv_size_of rules) b) >>= λ senc. Ok (record { senc = Some b.place; items = senc.items })
+
+abbrev pub unless_zero : ℕ → Result Auxiliary AuxFault → Result (Option Auxiliary) AuxFault
+unless_zero count read = if count == 0 then Ok None else (read >>= λ x. Ok (Some x))
 
 -- a senc whose count is 0 counts as absent
-unfoldable pub counted_senc : Found → Result (Option Found) AuxFault
-counted_senc b = told (placed (prot_fault_at b.place) (count_fields b.body)) >>= λ count. Ok (unless_zero b count)
-
--- what a senc says of each sample
-unfoldable pub by_senc : List (Option Rule) → Found → Result Auxiliary AuxFault
-by_senc rules b = told (senc_at (map iv_size_of rules) b) >>= λ senc. Ok (record { senc = Some b.place; items = senc.items })
+unfoldable pub senc_of : List (Option SampleProtection) → Found → Result (Option Auxiliary) AuxFault
+senc_of rules b = told (placed (prot_fault_at b.place) (count_fields b.body)) >>= λ count. unless_zero count (by_senc rules b)
 
 -- ---- saiz and saio: the used boxes
 
@@ -88,7 +88,7 @@ size_at s k =
     else 0
 
 -- the data of n samples from sample k on follow each other from a place
-unfoldable pub follow : Saiz → ℤ → ℕ → ℕ → List DataSpot
+unfoldable pub follow : Saiz → ℤ → ℕ → ℕ → List DataRange
 follow s at k zero = []
 follow s at k (suc n) = record { at = at; size = size_at s k } ∷ follow s (at +ℤ pos (size_at s k)) (k + 1) n
 
@@ -96,13 +96,13 @@ abbrev pub offset_of : List ℕ → ℕ → ℕ
 offset_of offsets i = unwrap_or (slice_get offsets i) 0
 
 -- each run has its own offset: run i, which begins with sample k, and on
-unfoldable pub by_run : Saiz → ℤ → List ℕ → ℕ → ℕ → List Trun → List DataSpot
+unfoldable pub by_run : Saiz → ℤ → List ℕ → ℕ → ℕ → List Trun → List DataRange
 by_run s base offsets i k [] = []
 by_run s base offsets i k (run ∷ runs) = follow s (base +ℤ pos (offset_of offsets i)) k run.count ++ by_run s base offsets (i + 1) (k + run.count) runs
 
 -- with one offset the data of all n samples follow each other; offsets count from the base
-abbrev pub data_spots : Saiz → ℤ → List ℕ → List Trun → ℕ → List DataSpot
-data_spots s base offsets runs n =
+abbrev pub data_ranges : Saiz → ℤ → List ℕ → List Trun → ℕ → List DataRange
+data_ranges s base offsets runs n =
     if length offsets == 1 then follow s (base +ℤ pos (offset_of offsets 0)) 0 n else by_run s base offsets 0 0 runs
 
 -- ---- saiz and saio: the data of a sample
@@ -120,26 +120,26 @@ abbrev pub nothing : SencItem
 nothing = record { iv = None; subs = [] }
 
 -- the place is tested, then the size; of a sample that is not protected neither is
-unfoldable pub data_at : List ℕ → ℕ → ℕ → Option Rule → DataSpot → Result SencItem AuxFault
-data_at file sizes offsets None spot = Ok nothing
-data_at file sizes offsets (Some r) spot =
-    if is_outside (length file) spot.at spot.size then Err (fault_at offsets OffsetPastEnd)
-    else data_of (fault_at sizes AuxSize) r.group.iv_size (part_of file (unsigned_abs spot.at) spot.size)
+unfoldable pub data_at : List ℕ → ℕ → ℕ → Option SampleProtection → DataRange → Result SencItem AuxFault
+data_at file sizes offsets None range = Ok nothing
+data_at file sizes offsets (Some r) range =
+    if is_outside (length file) range.at range.size then Err (fault_at offsets OffsetPastEnd)
+    else data_of (fault_at sizes AuxSize) r.group.iv_size (part_of file (unsigned_abs range.at) range.size)
 
-abbrev pub rule_of : List (Option Rule) → ℕ → Option Rule
+abbrev pub rule_of : List (Option SampleProtection) → ℕ → Option SampleProtection
 rule_of rules k = unwrap_or (slice_get rules k) None
 
-abbrev pub spot_of : List DataSpot → ℕ → DataSpot
-spot_of spots k = unwrap_or (slice_get spots k) (record { at = pos 0; size = 0 })
+abbrev pub range_of : List DataRange → ℕ → DataRange
+range_of ranges k = unwrap_or (slice_get ranges k) (record { at = pos 0; size = 0 })
 
-unfoldable pub by_spots : List ℕ → ℕ → ℕ → List (Option Rule) → List DataSpot → Result (List SencItem) AuxFault
-by_spots file sizes offsets rules spots = each_number (λ k. data_at file sizes offsets (rule_of rules k) (spot_of spots k)) (length rules)
+unfoldable pub by_ranges : List ℕ → ℕ → ℕ → List (Option SampleProtection) → List DataRange → Result (List SencItem) AuxFault
+by_ranges file sizes offsets rules ranges = each_number (λ k. data_at file sizes offsets (rule_of rules k) (range_of ranges k)) (length rules)
 
-unfoldable pub by_sizes : List ℕ → Scheme → Traf → ℤ → List (Option Rule) → Result Auxiliary AuxFault
+unfoldable pub by_sizes : List ℕ → Scheme → Traf → ℤ → List (Option SampleProtection) → Result Auxiliary AuxFault
 by_sizes file scheme traf base rules = do
   sizes ← used_saiz file scheme traf (length rules)
   offsets ← used_saio file scheme traf
-  items ← by_spots file sizes.place offsets.place rules (data_spots sizes.saiz base offsets.saio.offsets traf.runs (length rules))
+  items ← by_ranges file sizes.place offsets.place rules (data_ranges sizes.saiz base offsets.saio.offsets traf.runs (length rules))
   Ok (record { senc = None; items = items })
 
 -- ---- which of them
@@ -147,11 +147,11 @@ by_sizes file scheme traf base rules = do
 abbrev pub no_data : Auxiliary
 no_data = record { senc = None; items = [] }
 
-abbrev pub by_used : List ℕ → Sinf → Traf → ℤ → List (Option Rule) → Option Found → Result Auxiliary AuxFault
-by_used file entry traf base rules (Some b) = by_senc rules b
+abbrev pub by_used : List ℕ → Sinf → Traf → ℤ → List (Option SampleProtection) → Option Auxiliary → Result Auxiliary AuxFault
+by_used file entry traf base rules (Some auxiliary) = Ok auxiliary
 by_used file entry traf base rules None = if length traf.saiz == 0 then Ok no_data else by_sizes file entry.scheme traf base rules
 
 -- the first senc whose count is not 0, else saiz and saio, else nothing; on a clear sample entry none of it is looked at
-unfoldable pub auxiliary_of : List ℕ → Option Sinf → Traf → ℤ → List (Option Rule) → Result Auxiliary AuxFault
+unfoldable pub auxiliary_of : List ℕ → Option Sinf → Traf → ℤ → List (Option SampleProtection) → Result Auxiliary AuxFault
 auxiliary_of file None traf base rules = Ok no_data
-auxiliary_of file (Some entry) traf base rules = first_given counted_senc (boxes_at file traf.senc) >>= by_used file entry traf base rules
+auxiliary_of file (Some entry) traf base rules = first_given (senc_of rules) (boxes_at file traf.senc) >>= by_used file entry traf base rules

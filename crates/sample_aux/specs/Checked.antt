@@ -1,5 +1,5 @@
 -- The protection of a movie's sample entries (ISO/IEC 14496-12 section 8.12) and its group descriptions (section 8.9.3).
-use Rattle.std.specs.Prelude.{ℕ, List, [], slice_get, Option, Some, None, Result, Ok, Err}
+use Rattle.std.specs.Prelude.{ℕ, List, [], map, slice_get, Option, Some, None, Result, Ok, Err}
 use Rattle.iso_boxes.specs.Walk.{Found}
 use Rattle.iso_boxes.specs.Children.{◌>>=◌}
 use Rattle.prot_boxes.specs.Sinf.{sinf_at}
@@ -15,6 +15,8 @@ use Rattle.frag_boxes.specs.declared.records.SampleEntry.{SampleEntry}
 use Rattle.frag_boxes.specs.declared.records.MovieTrack.{MovieTrack}
 use Rattle.frag_boxes.specs.declared.records.Movie.{Movie}
 use Rattle.sample_aux.specs.declared.fault.AuxFault.{AuxFault}
+use Rattle.sample_aux.specs.declared.protection.TrackProtection.{TrackProtection}
+use Rattle.sample_aux.specs.declared.protection.MovieProtection.{MovieProtection}
 use Rattle.sample_aux.specs.declared.fault.AuxKind.TheVariants.{Scheme}
 use Rattle.sample_aux.specs.Faults.{fault_at, aux_fault, told}
 use Rattle.sample_aux.specs.Spans.{boxes_at, first_given}
@@ -72,3 +74,27 @@ track_passes file track = do
 -- each track in order
 unfoldable pub movie_passes : List ℕ → Movie → Result (Unit {0}) AuxFault
 movie_passes file movie = each_passes (λ track. track_passes file track) movie.tracks
+
+-- ---- what is kept of a movie
+
+-- what protects the samples of each sample entry, and the groups of the track, each of them or why it is refused
+abbrev pub track_protection : List ℕ → MovieTrack → TrackProtection
+track_protection file track = record { id = track.id; trex = track.trex; entries = map (λ entry. entry_protection file entry) track.entries; groups = groups_in file track.groups }
+
+-- what a track fragment looks up of the tracks of its movie
+abbrev pub movie_protection : List ℕ → Movie → MovieProtection
+movie_protection file movie = record { tracks = map (λ track. track_protection file track) movie.tracks }
+
+-- the ids of the tracks
+abbrev pub protected_ids : MovieProtection → List ℕ
+protected_ids known = map (λ (track : TrackProtection). track.id) known.tracks
+
+-- a part is not refused
+abbrev pub part_passes : {A : Type 0} → Result A AuxFault → Result (Unit {0}) AuxFault
+part_passes told = told >>= λ part. Ok tt
+
+-- the same of a track that was read
+unfoldable pub protection_passes : TrackProtection → Result (Unit {0}) AuxFault
+protection_passes track = do
+  entries ← each_passes (λ (told : Result (Option Sinf) AuxFault). part_passes told) track.entries
+  part_passes track.groups

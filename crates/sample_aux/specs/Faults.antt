@@ -1,5 +1,6 @@
 -- The refusals of a movie's protection and of a movie fragment.
-use Rattle.std.specs.Prelude.{◌≡◌, ◌⊎◌, ℕ, Result, Ok, Err}
+use Rattle.std.specs.Prelude.{◌≡◌, ℕ, Result, Ok, Err}
+use Rattle.eme_types.specs.FirstFault as first
 use Rattle.prot_boxes.specs.declared.fault.ProtKind.{ProtKind}
 use Rattle.prot_boxes.specs.declared.fault.ProtKind.TheVariants as prot
 use Rattle.prot_boxes.specs.declared.fault.ProtFault.{ProtFault}
@@ -40,7 +41,10 @@ sample_kind sample.Sum = aux.SubsSum
 sample_kind sample.IvSize = aux.IvSize
 sample_kind sample.Pattern = aux.Pattern
 
+-- memory ran out
+abbrev pub WantsMemory : AuxFault → Type 0
+WantsMemory e = e.kind ≡ aux.OutOfMemory
+
 -- what a function returned, seen by view, is what the definition gives, unless memory ran out
 abbrev pub Gives : {X Y : Type 0} → (X → Y) → Result X AuxFault → Result Y AuxFault → Type 0
-Gives view (Ok x) read = read ≡ Ok (view x)
-Gives view (Err e) read = (e.kind ≡ aux.OutOfMemory) ⊎ (read ≡ Err e)
+Gives view answer read = first.Gives WantsMemory view answer read

@@ -10,19 +10,17 @@ use Rattle.prot_boxes.specs.declared.seig.Seig.{Seig}
 use Rattle.prot_boxes.specs.declared.sinf.Sinf.{Sinf}
 use Rattle.prot_boxes.specs.declared.tenc.Tenc.{Tenc}
 use Rattle.frag_boxes.specs.declared.records.Span.{Span}
-use Rattle.frag_boxes.specs.declared.records.SampleEntry.{SampleEntry}
-use Rattle.frag_boxes.specs.declared.records.MovieTrack.{MovieTrack}
 use Rattle.frag_boxes.specs.declared.records.Traf.{Traf}
 use Rattle.sample_aux.specs.declared.fault.AuxKind.TheVariants.{GroupIndex, OutOfMemory, Scheme as NoScheme}
 use Rattle.sample_aux.specs.declared.fault.AuxKind.{AuxKind}
 use Rattle.sample_aux.specs.declared.fault.AuxFault.{AuxFault}
 use Rattle.sample_aux.specs.declared.groups.Grouping.{Grouping}
-use Rattle.sample_aux.specs.declared.groups.Rule.{Rule}
+use Rattle.sample_aux.specs.declared.groups.SampleProtection.{SampleProtection}
 use Rattle.sample_aux.specs.declared.groups.Protection.{Protection}
 use Rattle.sample_aux.specs.Faults.{fault_at, told}
 use Rattle.sample_aux.specs.Spans.{boxes_at, first_given}
 use Rattle.sample_aux.specs.InOrder.{each_number}
-use Rattle.sample_aux.specs.Checked.{entry_protection, groups_in}
+use Rattle.sample_aux.specs.Checked.{groups_in}
 
 -- ---- the index of a sample
 
@@ -43,27 +41,27 @@ group_of own movie index =
 abbrev pub fields_of : Tenc → Seig
 fields_of t = record { crypt = t.crypt; skip = t.skip; protected = t.protected; iv_size = t.iv_size; kid = t.kid; constant = t.constant }
 
-abbrev pub if_protected : Scheme → Seig → Option Rule
+abbrev pub if_protected : Scheme → Seig → Option SampleProtection
 if_protected scheme g = if g.protected then Some (record { scheme = scheme; group = g }) else None
 
 -- samples of no group are protected as their sample entry says
-abbrev pub entry_rule : Option Sinf → Option Rule
+abbrev pub entry_rule : Option Sinf → Option SampleProtection
 entry_rule None = None
 entry_rule (Some s) = if_protected s.scheme (fields_of s.tenc)
 
 -- a group that is protected needs a sample entry that is not clear
-abbrev pub group_rule : ℕ → Option Sinf → Seig → Result (Option Rule) AuxFault
+abbrev pub group_rule : ℕ → Option Sinf → Seig → Result (Option SampleProtection) AuxFault
 group_rule place None g = if g.protected then Err (fault_at place NoScheme) else Ok None
 group_rule place (Some s) g = Ok (if_protected s.scheme g)
 
 -- what protects a sample of this index; none where it is not protected
-unfoldable pub rule_at : ℕ → Option Sinf → List Seig → List Seig → ℕ → Result (Option Rule) AuxFault
+unfoldable pub rule_at : ℕ → Option Sinf → List Seig → List Seig → ℕ → Result (Option SampleProtection) AuxFault
 rule_at place entry own movie index =
     if index == 0 then Ok (entry_rule entry)
     else (required (fault_at place GroupIndex) (group_of own movie index) >>= group_rule place entry)
 
 -- what protects each of n samples
-unfoldable pub rules_at : Grouping → Option Sinf → List Seig → List Seig → ℕ → Result (List (Option Rule)) AuxFault
+unfoldable pub rules_at : Grouping → Option Sinf → List Seig → List Seig → ℕ → Result (List (Option SampleProtection)) AuxFault
 rules_at g entry own movie n = each_number (λ k. rule_at g.place entry own movie (index_at g.items k)) n
 
 -- ---- the boxes of a track fragment
@@ -100,15 +98,15 @@ abbrev pub IsEarlier : AuxFault → AuxFault → AuxFault → Type 0
 IsEarlier e f chosen = (chosen.kind ≡ OutOfMemory) ⊎ ((is_memory e.kind ≡ false) × ((is_memory f.kind ≡ false) × (chosen ≡ (if nat_lt f.place e.place then f else e))))
 
 -- the groups of the movie, where the track fragment has groups at all
-abbrev pub movie_groups : List ℕ → MovieTrack → Option Grouping → Result (List Seig) AuxFault
-movie_groups file track None = Ok []
-movie_groups file track (Some g) = groups_in file track.groups
+abbrev pub movie_groups : Result (List Seig) AuxFault → Option Grouping → Result (List Seig) AuxFault
+movie_groups groups None = Ok []
+movie_groups groups (Some g) = groups
 
--- what protects each of the n samples of a track fragment, and its sample entry
-unfoldable pub protection_of : List ℕ → MovieTrack → SampleEntry → Traf → ℕ → Result Protection AuxFault
-protection_of file track entry traf n = do
+-- what protects each of the n samples of a track fragment, and its sample entry, by what the movie says of both
+unfoldable pub protection_of : List ℕ → Result (Option Sinf) AuxFault → Result (List Seig) AuxFault → Traf → ℕ → Result Protection AuxFault
+protection_of file entry of_movie traf n = do
   boxes ← both (grouping_in file traf.sbgp) (groups_in file traf.sgpd)
-  used ← entry_protection file entry
-  groups ← movie_groups file track boxes.0
+  used ← entry
+  groups ← movie_groups of_movie boxes.0
   rules ← rules_at (or_ungrouped boxes.0) used boxes.1 groups n
   Ok (record { entry = used; rules = rules })

@@ -7,8 +7,8 @@ use Rattle.frag_boxes.specs.declared.records.Trun.{Trun}
 use Rattle.frag_boxes.specs.declared.records.Tfhd.{Tfhd}
 use Rattle.sample_aux.specs.declared.fault.AuxKind.TheVariants.{TooManySamples, TooManyBytes, DataPastEnd}
 use Rattle.sample_aux.specs.declared.fault.AuxFault.{AuxFault}
-use Rattle.sample_aux.specs.declared.laying.Laying.{Laying}
-use Rattle.sample_aux.specs.declared.laying.Spot.{Spot}
+use Rattle.sample_aux.specs.declared.laying.DataCursor.{DataCursor}
+use Rattle.sample_aux.specs.declared.laying.SampleRange.{SampleRange}
 use Rattle.sample_aux.specs.Faults.{fault_at}
 use Rattle.sample_aux.specs.InOrder.{in_order, learnt}
 
@@ -38,44 +38,44 @@ abbrev pub size_of : Trun → ℕ → ℕ → ℕ
 size_of run default k = size_in (slice_get run.items k) default
 
 -- the place of a sample that lies in the file whole, and its size
-unfoldable pub spot_at : ℕ → ℕ → Laying → ℕ → Result Spot AuxFault
-spot_at end place l size =
+unfoldable pub range_at : ℕ → ℕ → DataCursor → ℕ → Result SampleRange AuxFault
+range_at end place l size =
     if nat_lt l.bytes size then Err (fault_at place TooManyBytes)
     else if is_outside end l.at size then Err (fault_at place DataPastEnd)
     else Ok (record { place = unsigned_abs l.at; size = size })
 
 -- the next sample begins where this one ends
-abbrev pub after : Laying → Spot → Laying
-after l spot = record l { at = l.at +ℤ pos spot.size; bytes = l.bytes - spot.size }
+abbrev pub after : DataCursor → SampleRange → DataCursor
+after l range = record l { at = l.at +ℤ pos range.size; bytes = l.bytes - range.size }
 
 -- ---- runs
 
 -- the count of a run is taken from what is left of the samples
-abbrev pub counted : Trun → Laying → Laying
+abbrev pub counted : Trun → DataCursor → DataCursor
 counted run l = record l { samples = l.samples - run.count }
 
 -- the samples of a run
-unfoldable pub run_at : ℕ → ℕ → Laying → Trun → Result (List Spot) AuxFault
+unfoldable pub run_at : ℕ → ℕ → DataCursor → Trun → Result (List SampleRange) AuxFault
 run_at end default l run =
     if nat_lt l.samples run.count then Err (fault_at run.place TooManySamples)
-    else in_order (λ known k. spot_at end run.place known (size_of run default k)) after (counted run l) 0 run.count
+    else in_order (λ known k. range_at end run.place known (size_of run default k)) after (counted run l) 0 run.count
 
--- the samples of a run, and the laying behind it
-unfoldable pub run_laid : ℕ → ℕ → Laying → Trun → Result (List Spot × Laying) AuxFault
+-- the samples of a run, and the cursor behind it
+unfoldable pub run_laid : ℕ → ℕ → DataCursor → Trun → Result (List SampleRange × DataCursor) AuxFault
 run_laid end default l run = do
-  spots ← run_at end default l run
-  Ok (spots, learnt after (counted run l) spots)
+  ranges ← run_at end default l run
+  Ok (ranges, learnt after (counted run l) ranges)
 
 -- a run begins at the base and its offset, or where the run before it ended
 abbrev pub begin_at : ℤ → Option ℤ → ℤ → ℤ
 begin_at base None at = at
 begin_at base (Some offset) at = base +ℤ offset
 
-abbrev pub begun : ℤ → Trun → Laying → Laying
+abbrev pub begun : ℤ → Trun → DataCursor → DataCursor
 begun base run l = record l { at = begin_at base run.offset l.at }
 
--- the samples of all runs in order, and the laying behind the last
-unfoldable pub runs_laid : ℕ → ℕ → ℤ → Laying → List Trun → Result (List Spot × Laying) AuxFault
+-- the samples of all runs in order, and the cursor behind the last
+unfoldable pub runs_laid : ℕ → ℕ → ℤ → DataCursor → List Trun → Result (List SampleRange × DataCursor) AuxFault
 runs_laid end default base l [] = Ok ([], l)
 runs_laid end default base l (run ∷ runs) = do
   one ← run_laid end default (begun base run l) run

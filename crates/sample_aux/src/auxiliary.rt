@@ -1,21 +1,19 @@
 // The IVs and subsamples of the samples of a track fragment.
 ghost use Rattle.std.specs.Prelude.{◌≡◌, ◌==◌, ◌||◌, map, length, IfOk};
-ghost use Rattle.std.specs.Option.{option_map};
 ghost use Rattle.iso_boxes.specs.Walk.{found};
 ghost use Rattle.prot_boxes.specs.Answers.{Reads as ReadsKind};
 ghost use Rattle.prot_boxes.specs.Sinf.{scheme_code};
 ghost use Rattle.sample_aux.specs.Faults.{Gives};
-ghost use Rattle.sample_aux.specs.Spans.{boxes_at, first_given};
 ghost use Rattle.sample_aux.specs.Counting.{count_fields};
-ghost use Rattle.sample_aux.specs.Auxiliary.{iv_size_of, unless_zero, counted_senc, by_senc, is_of, saiz_of, saio_of, few_sizes, suits_runs, used_saiz, used_saio, by_sizes, by_used, auxiliary_of};
+ghost use Rattle.sample_aux.specs.Auxiliary.{iv_size_of, by_senc, senc_of, is_of, saiz_of, saio_of, few_sizes, suits_runs, used_saiz, used_saio, by_sizes, by_used, auxiliary_of};
 
 use crate::fault::{AuxFault, AuxKind};
-use crate::groups::Rule;
-use crate::laying::Laying;
-use crate::sample_data::{by_spots, data_spots};
-use crate::spans::box_at;
+use crate::first::{BoxReader, first_given};
+use crate::groups::SampleProtection;
+use crate::laying::DataCursor;
+use crate::sample_data::{by_ranges, data_ranges};
 use eme_types::{Items, IvSizes, Scheme};
-use frag_boxes::{Span, Traf};
+use frag_boxes::Traf;
 use iso_boxes::{BoxRef, fields, u8_at, u24_at, u32_at};
 use prot_boxes::{
     ProtFault, ProtKind, Saio, Saiz, SencItems, Sinf, read_saio, read_saiz, read_senc,
@@ -45,7 +43,7 @@ pub struct UsedSaio {
 
 // ---- senc
 
-fn iv_size_of(rule: Option<Rule>) -> u8
+fn iv_size_of(rule: Option<SampleProtection>) -> u8
     ensures { result ≡ iv_size_of rule }
 {
     match rule {
@@ -54,7 +52,7 @@ fn iv_size_of(rule: Option<Rule>) -> u8
     }
 }
 
-fn iv_sizes(alloc: Global, rules: &[Option<Rule>]) -> Result<IvSizes, AllocError>
+fn iv_sizes(alloc: Global, rules: &[Option<SampleProtection>]) -> Result<IvSizes, AllocError>
     ensures { IfOk result (λ x. x ≡ map iv_size_of rules.now) }
 {
     let mut sizes = Items::new(alloc);
@@ -72,34 +70,12 @@ fn read_count(rest: &[u8]) -> Result<(u32, &[u8]), ProtKind>
     Ok((count, rest))
 }
 
-#[tactic(auto, unfolding(crate::specs::Auxiliary::counted_senc))]
-fn counted_senc<'a>(at: &BoxRef<'a>) -> Result<Option<BoxRef<'a>>, AuxFault>
-    ensures { Gives (option_map found) result (counted_senc (found at.now)) }
-{
-    match read_count(at.body) {
-        Ok((0, _)) => Ok(None),
-        Ok(_) => Ok(Some(*at)),
-        Err(kind) => Err(AuxFault::from(ProtFault {
-            place: at.place,
-            kind,
-        })),
-    }
-}
-
-fn first_senc<'a>(file: &'a [u8], spans: &[Span]) -> Result<Option<BoxRef<'a>>, AuxFault>
-    ensures { Gives (option_map found) result (first_given counted_senc (boxes_at file.now spans.now)) }
-{
-    for span in spans {
-        let given = counted_senc(&box_at(file, span))?;
-        if given.is_some() {
-            return Ok(given);
-        }
-    }
-    Ok(None)
-}
-
 #[tactic(auto, unfolding(crate::specs::Auxiliary::by_senc))]
-fn by_senc(alloc: Global, rules: &[Option<Rule>], at: &BoxRef<'_>) -> Result<Auxiliary, AuxFault>
+fn by_senc(
+    alloc: Global,
+    rules: &[Option<SampleProtection>],
+    at: &BoxRef<'_>,
+) -> Result<Auxiliary, AuxFault>
     ensures { Gives (λ x. x) result (by_senc rules.now (found at.now)) }
 {
     let sizes = iv_sizes(alloc, rules)?;
@@ -108,6 +84,29 @@ fn by_senc(alloc: Global, rules: &[Option<Rule>], at: &BoxRef<'_>) -> Result<Aux
         senc: Some(at.place),
         items: senc.items,
     })
+}
+
+#[derive(Clone, Copy)]
+struct SencReader<'a> {
+    rules: &'a [Option<SampleProtection>],
+}
+
+impl<'a> BoxReader for SencReader<'a> {
+    type Given = Auxiliary;
+
+    ghost gives = { λ r b. senc_of r.rules.now b };
+
+    #[tactic(auto, unfolding(crate::specs::Auxiliary::senc_of))]
+    fn read(&self, alloc: Global, at: &BoxRef<'_>) -> Result<Option<Auxiliary>, AuxFault> {
+        match read_count(at.body) {
+            Ok((0, _)) => Ok(None),
+            Ok(_) => Ok(Some(by_senc(alloc, self.rules, at)?)),
+            Err(kind) => Err(AuxFault::from(ProtFault {
+                place: at.place,
+                kind,
+            })),
+        }
+    }
 }
 
 // ---- saiz and saio
@@ -130,68 +129,52 @@ fn is_of(scheme: Scheme, kind: Option<[u8; 4]>) -> bool
     }
 }
 
-#[tactic(auto, unfolding(crate::specs::Auxiliary::saiz_of))]
-fn saiz_of(alloc: Global, scheme: Scheme, at: &BoxRef<'_>) -> Result<Option<UsedSaiz>, AuxFault>
-    ensures { Gives (λ x. x) result (saiz_of scheme (found at.now)) }
-{
-    let saiz = read_saiz(alloc, at)?;
-    if is_of(scheme, saiz.kind) {
-        Ok(Some(UsedSaiz {
-            place: at.place,
-            saiz,
-        }))
-    } else {
-        Ok(None)
-    }
-}
-
-#[tactic(auto, unfolding(crate::specs::Auxiliary::saio_of))]
-fn saio_of(alloc: Global, scheme: Scheme, at: &BoxRef<'_>) -> Result<Option<UsedSaio>, AuxFault>
-    ensures { Gives (λ x. x) result (saio_of scheme (found at.now)) }
-{
-    let saio = read_saio(alloc, at)?;
-    if is_of(scheme, saio.kind) {
-        Ok(Some(UsedSaio {
-            place: at.place,
-            saio,
-        }))
-    } else {
-        Ok(None)
-    }
-}
-
-fn first_saiz(
-    alloc: Global,
-    file: &[u8],
+#[derive(Clone, Copy)]
+struct SaizReader {
     scheme: Scheme,
-    spans: &[Span],
-) -> Result<Option<UsedSaiz>, AuxFault>
-    ensures { Gives (λ x. x) result (first_given (saiz_of scheme) (boxes_at file.now spans.now)) }
-{
-    for span in spans {
-        let given = saiz_of(alloc, scheme, &box_at(file, span))?;
-        if given.is_some() {
-            return Ok(given);
+}
+
+impl BoxReader for SaizReader {
+    type Given = UsedSaiz;
+
+    ghost gives = { λ r b. saiz_of r.scheme b };
+
+    #[tactic(auto, unfolding(crate::specs::Auxiliary::saiz_of))]
+    fn read(&self, alloc: Global, at: &BoxRef<'_>) -> Result<Option<UsedSaiz>, AuxFault> {
+        let saiz = read_saiz(alloc, at)?;
+        if is_of(self.scheme, saiz.kind) {
+            Ok(Some(UsedSaiz {
+                place: at.place,
+                saiz,
+            }))
+        } else {
+            Ok(None)
         }
     }
-    Ok(None)
 }
 
-fn first_saio(
-    alloc: Global,
-    file: &[u8],
+#[derive(Clone, Copy)]
+struct SaioReader {
     scheme: Scheme,
-    spans: &[Span],
-) -> Result<Option<UsedSaio>, AuxFault>
-    ensures { Gives (λ x. x) result (first_given (saio_of scheme) (boxes_at file.now spans.now)) }
-{
-    for span in spans {
-        let given = saio_of(alloc, scheme, &box_at(file, span))?;
-        if given.is_some() {
-            return Ok(given);
+}
+
+impl BoxReader for SaioReader {
+    type Given = UsedSaio;
+
+    ghost gives = { λ r b. saio_of r.scheme b };
+
+    #[tactic(auto, unfolding(crate::specs::Auxiliary::saio_of))]
+    fn read(&self, alloc: Global, at: &BoxRef<'_>) -> Result<Option<UsedSaio>, AuxFault> {
+        let saio = read_saio(alloc, at)?;
+        if is_of(self.scheme, saio.kind) {
+            Ok(Some(UsedSaio {
+                place: at.place,
+                saio,
+            }))
+        } else {
+            Ok(None)
         }
     }
-    Ok(None)
 }
 
 #[tactic(auto, unfolding(crate::specs::Auxiliary::used_saiz))]
@@ -204,7 +187,8 @@ fn used_saiz(
 ) -> Result<UsedSaiz, AuxFault>
     ensures { Gives (λ x. x) result (used_saiz file.now scheme traf.now n) }
 {
-    let Some(used) = first_saiz(alloc, file, scheme, traf.saiz.as_slice())? else {
+    let reader = SaizReader { scheme };
+    let Some(used) = first_given(alloc, file, traf.saiz.as_slice(), &reader)? else {
         return Err(AuxFault {
             place: traf.place,
             kind: AuxKind::NoAux,
@@ -223,7 +207,8 @@ fn used_saiz(
 fn used_saio(alloc: Global, file: &[u8], scheme: Scheme, traf: &Traf) -> Result<UsedSaio, AuxFault>
     ensures { Gives (λ x. x) result (used_saio file.now scheme traf.now) }
 {
-    let Some(used) = first_saio(alloc, file, scheme, traf.saio.as_slice())? else {
+    let reader = SaioReader { scheme };
+    let Some(used) = first_given(alloc, file, traf.saio.as_slice(), &reader)? else {
         return Err(AuxFault {
             place: traf.place,
             kind: AuxKind::NoAux,
@@ -246,14 +231,14 @@ fn by_sizes(
     file: &[u8],
     scheme: Scheme,
     traf: &Traf,
-    base: Laying,
-    rules: &[Option<Rule>],
+    base: DataCursor,
+    rules: &[Option<SampleProtection>],
 ) -> Result<Auxiliary, AuxFault>
     ensures { Gives (λ x. x) result (by_sizes file.now scheme traf.now base.at rules.now) }
 {
     let sizes = used_saiz(alloc, file, scheme, traf, rules.len())?;
     let offsets = used_saio(alloc, file, scheme, traf)?;
-    let spots = data_spots(
+    let ranges = data_ranges(
         alloc,
         &sizes.saiz,
         base,
@@ -261,13 +246,13 @@ fn by_sizes(
         traf.runs.as_slice(),
         rules.len(),
     )?;
-    let items = by_spots(
+    let items = by_ranges(
         alloc,
         file,
         sizes.place,
         offsets.place,
         rules,
-        spots.as_slice(),
+        ranges.as_slice(),
     )?;
     Ok(Auxiliary { senc: None, items })
 }
@@ -279,8 +264,8 @@ pub fn auxiliary_of(
     file: &[u8],
     entry: Option<Sinf>,
     traf: &Traf,
-    base: Laying,
-    rules: &[Option<Rule>],
+    base: DataCursor,
+    rules: &[Option<SampleProtection>],
 ) -> Result<Auxiliary, AuxFault>
     ensures { Gives (λ x. x) result (auxiliary_of file.now entry traf.now base.at rules.now) }
 {
@@ -290,8 +275,8 @@ pub fn auxiliary_of(
             items: Items::new(alloc),
         });
     };
-    match first_senc(file, traf.senc.as_slice())? {
-        Some(at) => by_senc(alloc, rules, &at),
+    match first_given(alloc, file, traf.senc.as_slice(), &SencReader { rules })? {
+        Some(auxiliary) => Ok(auxiliary),
         None => {
             if traf.saiz.len() == 0 {
                 Ok(Auxiliary {

@@ -4,15 +4,17 @@ ghost use Rattle.std.specs.Option.{option_map};
 ghost use Rattle.eme_types.specs.Fed.{has_samples, are_known, is_joined, are_well_formed, fragment_samples, fragment_bytes};
 ghost use Rattle.frag_boxes.specs.Tracks.{track_ids};
 ghost use Rattle.sample_aux.specs.Faults.{Gives};
-ghost use Rattle.sample_aux.specs.Resolve.{track_with, entry_with, traf_resolved, trafs_resolved, met, put_part, put_left, all_joined, fragment_of, resolved};
+ghost use Rattle.sample_aux.specs.Resolve.{track_with, entry_with, traf_resolved, trafs_resolved, met, put_part, put_left, all_joined, fragment_of, known_resolved, resolved};
+ghost use Rattle.sample_aux.specs.Checked.{protected_ids};
 
 use crate::fault::{AuxFault, AuxKind};
 use crate::groups::protection_of;
 use crate::inits::init_data_of;
-use crate::laying::{Laying, base_of, runs_laid};
+use crate::laying::{DataCursor, base_of, runs_laid};
+use crate::protection::{MovieProtection, TrackProtection, known_protection};
 use crate::samples::samples_of;
 use eme_types::{Fragment, Items, Parts, Samples, TrackPart};
-use frag_boxes::{Moof, Movie, MovieTrack, SampleEntry, Traf};
+use frag_boxes::{Moof, Movie, Traf};
 use std::alloc::{AllocError, Global};
 
 /// What the limits leave: samples, and bytes of samples.
@@ -22,7 +24,7 @@ pub struct Room {
     pub bytes: u64,
 }
 
-fn track_with(id: u32, tracks: &[MovieTrack]) -> Option<&MovieTrack>
+fn track_with(id: u32, tracks: &[TrackProtection]) -> Option<&TrackProtection>
     ensures { option_map (λ t. t.now) result ≡ track_with id tracks.now }
 {
     for track in tracks {
@@ -33,7 +35,7 @@ fn track_with(id: u32, tracks: &[MovieTrack]) -> Option<&MovieTrack>
     None
 }
 
-fn entry_with(index: u32, entries: &[SampleEntry]) -> Option<&SampleEntry>
+fn entry_with<T>(index: u32, entries: &[T]) -> Option<&T>
     ensures { option_map (λ e. e.now) result ≡ entry_with index entries.now }
 {
     if index == 0 {
@@ -43,23 +45,23 @@ fn entry_with(index: u32, entries: &[SampleEntry]) -> Option<&SampleEntry>
     }
 }
 
-/// The samples of a track fragment, and the laying behind them. `start` is the place of the `moof`.
+/// The samples of a track fragment, and the cursor behind them. `start` is the place of the `moof`.
 #[tactic(auto, unfolding(crate::specs::Resolve::traf_resolved))]
 fn resolve_traf(
     alloc: Global,
     file: &[u8],
-    movie: &Movie,
+    known: &MovieProtection,
     start: u64,
-    laying: Laying,
+    cursor: DataCursor,
     traf: &Traf,
-) -> Result<(TrackPart, Laying), AuxFault>
-    ensures { Gives (λ x. x) result (traf_resolved file.now movie.now start laying traf.now) }
+) -> Result<(TrackPart, DataCursor), AuxFault>
+    ensures { Gives (λ x. x) result (traf_resolved file.now known.now start cursor traf.now) }
 {
     let fault = |kind| AuxFault {
         place: traf.tfhd.place,
         kind,
     };
-    let Some(track) = track_with(traf.tfhd.track, movie.tracks.as_slice()) else {
+    let Some(track) = track_with(traf.tfhd.track, known.tracks.as_slice()) else {
         return Err(fault(AuxKind::UnknownTrack));
     };
     let Some(trex) = track.trex else {
@@ -69,11 +71,11 @@ fn resolve_traf(
     let Some(entry) = entry_with(index, track.entries.as_slice()) else {
         return Err(fault(AuxKind::Description));
     };
-    let base = base_of(start, &traf.tfhd, laying);
+    let base = base_of(start, &traf.tfhd, cursor);
     let size = traf.tfhd.size.unwrap_or(trex.size);
-    let (spots, next) = runs_laid(alloc, file.len() as u64, size, base, traf.runs.as_slice())?;
-    let protection = protection_of(alloc, file, track, entry, traf, spots.len())?;
-    let samples = samples_of(alloc, file, traf, base, spots.as_slice(), &protection)?;
+    let (ranges, next) = runs_laid(alloc, file.len() as u64, size, base, traf.runs.as_slice())?;
+    let protection = protection_of(alloc, file, *entry, &track.groups, traf, ranges.len())?;
+    let samples = samples_of(alloc, file, traf, base, ranges.as_slice(), &protection)?;
     let part = TrackPart {
         track: track.id,
         samples,
@@ -150,20 +152,20 @@ fn put_part(
 fn resolve_trafs(
     alloc: Global,
     file: &[u8],
-    movie: &Movie,
+    known: &MovieProtection,
     start: u64,
-    begin: Laying,
+    begin: DataCursor,
     trafs: &[Traf],
 ) -> Result<Vec<TrackPart>, AuxFault>
-    ensures { Gives (λ x. x.items) result (all_joined [] (trafs_resolved file.now movie.now start begin trafs.now)) }
+    ensures { Gives (λ x. x.items) result (all_joined [] (trafs_resolved file.now known.now start begin trafs.now)) }
 {
     let mut parts = Vec::new(alloc);
-    let mut laying = begin;
+    let mut cursor = begin;
     for traf in trafs {
-        let (part, next) = resolve_traf(alloc, file, movie, start, laying, traf)?;
+        let (part, next) = resolve_traf(alloc, file, known, start, cursor, traf)?;
         let joined = put_part(alloc, parts, part)?;
         parts = joined;
-        laying = next;
+        cursor = next;
     }
     Ok(parts)
 }
@@ -205,26 +207,45 @@ pub fn resolve(
     ensures samples { IfOk result (λ x. fragment_samples x ≤ room.samples) }
     ensures bytes { IfOk result (λ x. fragment_bytes x ≤ room.bytes) }
 {
-    resolve_all(alloc, file, movie, moof, room)
+    let known = known_protection(alloc, file, movie)?;
+    resolve_known(alloc, file, &known, moof, room)
 }
 
-/// The same, by its definition alone.
-#[tactic(auto, unfolding(crate::specs::Resolve::resolved))]
-fn resolve_all(
+/// The same, by what was read of the movie.
+pub fn resolve_known(
     alloc: Global,
     file: &[u8],
-    movie: &Movie,
+    known: &MovieProtection,
     moof: &Moof,
     room: Room,
 ) -> Result<Fragment, AuxFault>
-    ensures { Gives (λ x. x) result (resolved file.now movie.now moof.now room) }
+    ensures exact { Gives (λ x. x) result (known_resolved file.now known.now moof.now room) }
+    ensures known { IfOk result (λ x. IsTrue (are_known (protected_ids known.now) x)) }
+    ensures joined { IfOk result (λ x. IsTrue (is_joined x)) }
+    ensures formed { IfOk result (λ x. IsTrue (are_well_formed x)) }
+    ensures samples { IfOk result (λ x. fragment_samples x ≤ room.samples) }
+    ensures bytes { IfOk result (λ x. fragment_bytes x ≤ room.bytes) }
 {
-    let begin = Laying {
+    resolve_all(alloc, file, known, moof, room)
+}
+
+/// The same, by its definition alone.
+#[tactic(auto, unfolding(crate::specs::Resolve::known_resolved))]
+fn resolve_all(
+    alloc: Global,
+    file: &[u8],
+    known: &MovieProtection,
+    moof: &Moof,
+    room: Room,
+) -> Result<Fragment, AuxFault>
+    ensures { Gives (λ x. x) result (known_resolved file.now known.now moof.now room) }
+{
+    let begin = DataCursor {
         at: i128::from(moof.place),
         samples: room.samples,
         bytes: room.bytes,
     };
-    let parts = resolve_trafs(alloc, file, movie, moof.place, begin, moof.trafs.as_slice())?;
+    let parts = resolve_trafs(alloc, file, known, moof.place, begin, moof.trafs.as_slice())?;
     let parts = with_samples(alloc, parts)?;
     let inits = init_data_of(alloc, file, moof.psshs.as_slice())?;
     Ok(Fragment { inits, parts })

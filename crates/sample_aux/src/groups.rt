@@ -1,16 +1,14 @@
 // The group of each sample, and what protects it.
 ghost use Rattle.std.specs.Prelude.{◌≡◌, ℕ, ◌+◌, ◌<◌, ◌^◌, ◌-◌, ◌≤◌, length};
-ghost use Rattle.iso_boxes.specs.Walk.{found};
 ghost use Rattle.sample_aux.specs.Faults.{Gives};
-ghost use Rattle.sample_aux.specs.Spans.{boxes_at, first_given};
 ghost use Rattle.sample_aux.specs.Checked.{groups_in};
 ghost use Rattle.sample_aux.specs.Groups.{index_at, group_of, fields_of, if_protected, entry_rule, group_rule, rule_at, rules_at, with_place, grouping_at, grouping_in, or_ungrouped, both, IsEarlier, movie_groups, protection_of};
 
-use crate::checked::{entry_protection, groups_in};
+use crate::checked::groups_in;
 use crate::fault::{AuxFault, AuxKind};
-use crate::spans::box_at;
+use crate::first::{BoxReader, first_given};
 use eme_types::{Items, Scheme};
-use frag_boxes::{MovieTrack, SampleEntry, Span, Traf};
+use frag_boxes::{Span, Traf};
 use iso_boxes::BoxRef;
 use prot_boxes::{SbgpItem, SbgpItems, Seig, Seigs, Sinf, Tenc, read_sbgp};
 use std::alloc::Global;
@@ -24,18 +22,18 @@ pub struct Grouping {
 
 /// What protects a sample.
 #[derive(Clone, Copy, Debug)]
-pub struct Rule {
+pub struct SampleProtection {
     pub scheme: Scheme,
     pub group: Seig,
 }
 
-pub type Rules = Items<Option<Rule>>;
+pub type SampleProtections = Items<Option<SampleProtection>>;
 
 /// What protects the sample entry of a track fragment, none where it is clear, and each of its samples.
 #[derive(Drop)]
 pub struct Protection {
     pub entry: Option<Sinf>,
-    pub rules: Rules,
+    pub rules: SampleProtections,
 }
 
 /// The indices that are left: of the first item some samples have passed.
@@ -96,17 +94,17 @@ fn fields_of(tenc: Tenc) -> Seig
     }
 }
 
-fn if_protected(scheme: Scheme, group: Seig) -> Option<Rule>
+fn if_protected(scheme: Scheme, group: Seig) -> Option<SampleProtection>
     ensures { result ≡ if_protected scheme group }
 {
     if group.protected {
-        Some(Rule { scheme, group })
+        Some(SampleProtection { scheme, group })
     } else {
         None
     }
 }
 
-fn entry_rule(entry: Option<Sinf>) -> Option<Rule>
+fn entry_rule(entry: Option<Sinf>) -> Option<SampleProtection>
     ensures { result ≡ entry_rule entry }
 {
     match entry {
@@ -115,7 +113,11 @@ fn entry_rule(entry: Option<Sinf>) -> Option<Rule>
     }
 }
 
-fn group_rule(place: u64, entry: Option<Sinf>, group: Seig) -> Result<Option<Rule>, AuxFault>
+fn group_rule(
+    place: u64,
+    entry: Option<Sinf>,
+    group: Seig,
+) -> Result<Option<SampleProtection>, AuxFault>
     ensures { result ≡ group_rule place entry group }
 {
     match entry {
@@ -140,7 +142,7 @@ fn rule_at(
     own: &[Seig],
     movie: &[Seig],
     index: u32,
-) -> Result<Option<Rule>, AuxFault>
+) -> Result<Option<SampleProtection>, AuxFault>
     ensures { result ≡ rule_at place entry own.now movie.now index }
 {
     if index == 0 {
@@ -163,7 +165,7 @@ fn rules_at(
     own: &[Seig],
     movie: &[Seig],
     n: usize,
-) -> Result<Rules, AuxFault>
+) -> Result<SampleProtections, AuxFault>
     ensures { Gives (λ x. x) result (rules_at grouping.now entry own.now movie.now n) }
 {
     let mut rules = Items::new(alloc);
@@ -179,16 +181,23 @@ fn rules_at(
     Ok(rules)
 }
 
-#[tactic(auto, unfolding(crate::specs::Groups::grouping_at))]
-fn grouping_at(alloc: Global, at: &BoxRef<'_>) -> Result<Option<Grouping>, AuxFault>
-    ensures { Gives (λ x. x) result (grouping_at (found at.now)) }
-{
-    match read_sbgp(alloc, at)? {
-        None => Ok(None),
-        Some(sbgp) => Ok(Some(Grouping {
-            place: at.place,
-            items: sbgp.entries,
-        })),
+#[derive(Clone, Copy)]
+struct SbgpReader;
+
+impl BoxReader for SbgpReader {
+    type Given = Grouping;
+
+    ghost gives = { λ r b. grouping_at b };
+
+    #[tactic(auto, unfolding(crate::specs::Groups::grouping_at))]
+    fn read(&self, alloc: Global, at: &BoxRef<'_>) -> Result<Option<Grouping>, AuxFault> {
+        match read_sbgp(alloc, at)? {
+            None => Ok(None),
+            Some(sbgp) => Ok(Some(Grouping {
+                place: at.place,
+                items: sbgp.entries,
+            })),
+        }
     }
 }
 
@@ -196,19 +205,7 @@ fn grouping_at(alloc: Global, at: &BoxRef<'_>) -> Result<Option<Grouping>, AuxFa
 fn grouping_in(alloc: Global, file: &[u8], spans: &[Span]) -> Result<Option<Grouping>, AuxFault>
     ensures { Gives (λ x. x) result (grouping_in file.now spans.now) }
 {
-    first_grouping(alloc, file, spans)
-}
-
-fn first_grouping(alloc: Global, file: &[u8], spans: &[Span]) -> Result<Option<Grouping>, AuxFault>
-    ensures { Gives (λ x. x) result (first_given grouping_at (boxes_at file.now spans.now)) }
-{
-    for span in spans {
-        let given = grouping_at(alloc, &box_at(file, span))?;
-        if given.is_some() {
-            return Ok(given);
-        }
-    }
-    Ok(None)
+    first_given(alloc, file, spans, &SbgpReader)
 }
 
 /// Of two refusals the one that stands first in the file; want of memory before both.
@@ -240,17 +237,16 @@ fn or_ungrouped(alloc: Global, grouping: Option<Grouping>) -> Grouping
     }
 }
 
-fn movie_groups(
-    alloc: Global,
-    file: &[u8],
-    track: &MovieTrack,
+fn movie_groups<'a>(
+    groups: &'a Result<Seigs, AuxFault>,
     grouping: &Option<Grouping>,
-) -> Result<Seigs, AuxFault>
-    ensures { Gives (λ x. x) result (movie_groups file.now track.now grouping.now) }
+) -> Result<&'a [Seig], AuxFault>
+    ensures { Gives (λ x. x.now) result (movie_groups groups.now grouping.now) }
 {
-    match grouping {
-        None => Ok(Items::new(alloc)),
-        Some(_) => groups_in(alloc, file, track.groups.as_slice()),
+    match (grouping, groups) {
+        (None, _) => Ok(&[]),
+        (Some(_), Ok(groups)) => Ok(groups.as_slice()),
+        (Some(_), Err(fault)) => Err(*fault),
     }
 }
 
@@ -268,22 +264,22 @@ fn boxes_of(alloc: Global, file: &[u8], traf: &Traf) -> Result<(Option<Grouping>
     }
 }
 
-/// What protects each of the `n` samples of a track fragment.
+/// What protects each of the `n` samples of a track fragment, by what its movie says of the sample entry and of groups.
 #[tactic(auto, unfolding(crate::specs::Groups::protection_of))]
 pub fn protection_of(
     alloc: Global,
     file: &[u8],
-    track: &MovieTrack,
-    entry: &SampleEntry,
+    entry: Result<Option<Sinf>, AuxFault>,
+    of_movie: &Result<Seigs, AuxFault>,
     traf: &Traf,
     n: usize,
 ) -> Result<Protection, AuxFault>
-    ensures { Gives (λ x. x) result (protection_of file.now track.now entry.now traf.now n) }
+    ensures { Gives (λ x. x) result (protection_of file.now entry of_movie.now traf.now n) }
 {
     let (grouping, own) = boxes_of(alloc, file, traf)?;
-    let used = entry_protection(file, entry)?;
-    let groups = movie_groups(alloc, file, track, &grouping)?;
+    let used = entry?;
+    let groups = movie_groups(of_movie, &grouping)?;
     let grouping = or_ungrouped(alloc, grouping);
-    let rules = rules_at(alloc, &grouping, used, own.as_slice(), groups.as_slice(), n)?;
+    let rules = rules_at(alloc, &grouping, used, own.as_slice(), groups, n)?;
     Ok(Protection { entry: used, rules })
 }

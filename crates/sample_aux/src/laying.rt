@@ -2,7 +2,7 @@
 ghost use Rattle.std.specs.Prelude.{◌≡◌, ◌+◌, ◌-◌, pos, ◌+ℤ◌, ◌≤ℤ◌, ◌≤◌, IfOk, false};
 ghost use Rattle.sample_aux.specs.Faults.{Gives};
 ghost use Rattle.sample_aux.specs.InOrder.{in_order, learnt};
-ghost use Rattle.sample_aux.specs.Laying.{is_outside, base_of, size_of, spot_at, after, counted, run_at, run_laid, begun, runs_laid};
+ghost use Rattle.sample_aux.specs.Laying.{is_outside, base_of, size_of, range_at, after, counted, run_at, run_laid, begun, runs_laid};
 
 use crate::fault::{AuxFault, AuxKind};
 use eme_types::Items;
@@ -11,16 +11,16 @@ use std::alloc::{AllocError, Global};
 
 /// The place and the size of a sample, in bytes.
 #[derive(Clone, Copy, Debug)]
-pub struct Spot {
+pub struct SampleRange {
     pub place: u64,
     pub size: u32,
 }
 
-pub type Spots = Items<Spot>;
+pub type SampleRanges = Items<SampleRange>;
 
 /// Where the next sample begins, which may be outside the file, and what the limits leave.
 #[derive(Clone, Copy, Debug)]
-pub struct Laying {
+pub struct DataCursor {
     pub at: i128,
     pub samples: u32,
     pub bytes: u64,
@@ -48,9 +48,9 @@ pub fn is_outside(end: u64, at: i128, size: u32) -> bool
     }
 }
 
-/// Where the offsets of a track fragment's runs count from, behind the data that ends at `laying`.
-pub fn base_of(start: u64, tfhd: &Tfhd, laying: Laying) -> Laying
-    ensures { result ≡ record laying { at = base_of start tfhd.now laying.at } }
+/// Where the offsets of a track fragment's runs count from, behind the data that ends at `cursor`.
+pub fn base_of(start: u64, tfhd: &Tfhd, cursor: DataCursor) -> DataCursor
+    ensures { result ≡ record cursor { at = base_of start tfhd.now cursor.at } }
 {
     let at = match tfhd.base {
         Some(base) => i128::from(base),
@@ -58,11 +58,11 @@ pub fn base_of(start: u64, tfhd: &Tfhd, laying: Laying) -> Laying
             if tfhd.flags & 0x20000 != 0 {
                 i128::from(start)
             } else {
-                laying.at
+                cursor.at
             }
         }
     };
-    Laying { at, ..laying }
+    DataCursor { at, ..cursor }
 }
 
 fn size_of(run: &Trun, default: u32, k: u32) -> u32
@@ -74,60 +74,60 @@ fn size_of(run: &Trun, default: u32, k: u32) -> u32
     }
 }
 
-#[tactic(auto, unfolding(crate::specs::Laying::spot_at))]
-fn spot_at(end: u64, place: u64, laying: Laying, size: u32) -> Result<Spot, AuxFault>
-    ensures gives { Gives (λ x. x) result (spot_at end place laying size) }
-    ensures size { IfOk result (λ x. (x.size ≡ size) × ((laying.at +ℤ pos size) ≤ℤ pos end) × (size ≤ laying.bytes)) }
+#[tactic(auto, unfolding(crate::specs::Laying::range_at))]
+fn range_at(end: u64, place: u64, cursor: DataCursor, size: u32) -> Result<SampleRange, AuxFault>
+    ensures gives { Gives (λ x. x) result (range_at end place cursor size) }
+    ensures size { IfOk result (λ x. (x.size ≡ size) × ((cursor.at +ℤ pos size) ≤ℤ pos end) × (size ≤ cursor.bytes)) }
 {
-    if laying.bytes < u64::from(size) {
+    if cursor.bytes < u64::from(size) {
         return Err(AuxFault {
             place,
             kind: AuxKind::TooManyBytes,
         });
     }
-    if is_outside(end, laying.at, size) {
+    if is_outside(end, cursor.at, size) {
         return Err(AuxFault {
             place,
             kind: AuxKind::DataPastEnd,
         });
     }
-    Ok(Spot {
-        place: laying.at as u64,
+    Ok(SampleRange {
+        place: cursor.at as u64,
         size,
     })
 }
 
-fn advance(end: u64, laying: Laying, spot: Spot) -> Laying
-    requires inside { (laying.at +ℤ pos spot.size) ≤ℤ pos end }
-    requires left { spot.size ≤ laying.bytes }
-    ensures { result ≡ after laying spot }
+fn advance(end: u64, cursor: DataCursor, range: SampleRange) -> DataCursor
+    requires inside { (cursor.at +ℤ pos range.size) ≤ℤ pos end }
+    requires left { range.size ≤ cursor.bytes }
+    ensures { result ≡ after cursor range }
 {
-    Laying {
-        at: laying.at + i128::from(spot.size),
-        bytes: laying.bytes - u64::from(spot.size),
-        ..laying
+    DataCursor {
+        at: cursor.at + i128::from(range.size),
+        bytes: cursor.bytes - u64::from(range.size),
+        ..cursor
     }
 }
 
-fn spots_of(
+fn ranges_of(
     alloc: Global,
     end: u64,
     default: u32,
-    start: Laying,
+    start: DataCursor,
     run: &Trun,
-) -> Result<(Spots, Laying), AuxFault>
-    ensures gives { Gives (λ x. x.0) result (in_order (λ known k. spot_at end run.now.place known (size_of run.now default k)) after start 0 run.now.count) }
+) -> Result<(SampleRanges, DataCursor), AuxFault>
+    ensures gives { Gives (λ x. x.0) result (in_order (λ known k. range_at end run.now.place known (size_of run.now default k)) after start 0 run.now.count) }
     ensures left { IfOk result (λ x. x.1 ≡ learnt after start x.0) }
 {
-    let mut spots = Items::new(alloc);
-    let mut laying = start;
+    let mut ranges = Items::new(alloc);
+    let mut cursor = start;
     for k in 0..run.count {
         let size = size_of(run, default, k);
-        let spot = spot_at(end, run.place, laying, size)?;
-        spots.push(spot)?;
-        laying = advance(end, laying, spot);
+        let range = range_at(end, run.place, cursor, size)?;
+        ranges.push(range)?;
+        cursor = advance(end, cursor, range);
     }
-    Ok((spots, laying))
+    Ok((ranges, cursor))
 }
 
 #[tactic(auto, unfolding(crate::specs::Laying::run_at))]
@@ -135,23 +135,23 @@ fn run_at(
     alloc: Global,
     end: u64,
     default: u32,
-    laying: Laying,
+    cursor: DataCursor,
     run: &Trun,
-) -> Result<(Spots, Laying), AuxFault>
-    ensures gives { Gives (λ x. x.0) result (run_at end default laying run.now) }
-    ensures left { IfOk result (λ x. x.1 ≡ learnt after (counted run.now laying) x.0) }
+) -> Result<(SampleRanges, DataCursor), AuxFault>
+    ensures gives { Gives (λ x. x.0) result (run_at end default cursor run.now) }
+    ensures left { IfOk result (λ x. x.1 ≡ learnt after (counted run.now cursor) x.0) }
 {
-    if laying.samples < run.count {
+    if cursor.samples < run.count {
         return Err(AuxFault {
             place: run.place,
             kind: AuxKind::TooManySamples,
         });
     }
-    let laying = Laying {
-        samples: laying.samples - run.count,
-        ..laying
+    let cursor = DataCursor {
+        samples: cursor.samples - run.count,
+        ..cursor
     };
-    spots_of(alloc, end, default, laying, run)
+    ranges_of(alloc, end, default, cursor, run)
 }
 
 #[tactic(auto, unfolding(crate::specs::Laying::run_laid))]
@@ -159,43 +159,43 @@ fn run_laid(
     alloc: Global,
     end: u64,
     default: u32,
-    laying: Laying,
+    cursor: DataCursor,
     run: &Trun,
-) -> Result<(Spots, Laying), AuxFault>
-    ensures { Gives (λ x. x) result (run_laid end default laying run.now) }
+) -> Result<(SampleRanges, DataCursor), AuxFault>
+    ensures { Gives (λ x. x) result (run_laid end default cursor run.now) }
 {
-    run_at(alloc, end, default, laying, run)
+    run_at(alloc, end, default, cursor, run)
 }
 
-fn begun(base: Laying, run: &Trun, laying: Laying) -> Result<Laying, AllocError>
-    ensures { IfOk result (λ x. x ≡ begun base.at run.now laying) }
+fn begun(base: DataCursor, run: &Trun, cursor: DataCursor) -> Result<DataCursor, AllocError>
+    ensures { IfOk result (λ x. x ≡ begun base.at run.now cursor) }
 {
     match run.offset {
         Some(offset) => {
             let at = moved(base.at, i128::from(offset))?;
-            Ok(Laying { at, ..laying })
+            Ok(DataCursor { at, ..cursor })
         }
-        None => Ok(laying),
+        None => Ok(cursor),
     }
 }
 
-/// The places and sizes of the samples of all runs in order, and the laying behind the last. The first run begins at `base`.
+/// The places and sizes of the samples of all runs in order, and the cursor behind the last. The first run begins at `base`.
 pub fn runs_laid(
     alloc: Global,
     end: u64,
     default: u32,
-    base: Laying,
+    base: DataCursor,
     runs: &[Trun],
-) -> Result<(Spots, Laying), AuxFault>
+) -> Result<(SampleRanges, DataCursor), AuxFault>
     ensures { Gives (λ x. x) result (runs_laid end default base.at base runs.now) }
 {
     let mut all = Items::new(alloc);
-    let mut laying = base;
+    let mut cursor = base;
     for run in runs {
-        let begin = begun(base, run, laying)?;
-        let (spots, next) = run_laid(alloc, end, default, begin, run)?;
-        all.extend_from_slice(spots.as_slice())?;
-        laying = next;
+        let begin = begun(base, run, cursor)?;
+        let (ranges, next) = run_laid(alloc, end, default, begin, run)?;
+        all.extend_from_slice(ranges.as_slice())?;
+        cursor = next;
     }
-    Ok((all, laying))
+    Ok((all, cursor))
 }

@@ -1,30 +1,26 @@
 // The auxiliary data of one sample, and where it stands.
 ghost use Rattle.std.specs.Prelude.{◌≡◌, pos, ◌+ℤ◌, ◌+◌, ◌-◌, IfOk};
-ghost use Rattle.iso_boxes.specs.Reading.{repeated};
-ghost use Rattle.prot_boxes.specs.Answers.{Reads as ReadsKind, Gives as GivesKind};
-ghost use Rattle.prot_boxes.specs.Senc.{iv_fields, sub, counted_subs, subs_if, item};
 ghost use Rattle.sample_aux.specs.declared.fault.AuxKind.TheVariants.{AuxSize};
 ghost use Rattle.sample_aux.specs.Faults.{fault_at, Gives};
-ghost use Rattle.sample_aux.specs.Auxiliary.{size_at, offset_of, follow, by_run, data_spots, data_of, data_at, rule_of, spot_of, by_spots};
+ghost use Rattle.sample_aux.specs.Auxiliary.{size_at, offset_of, follow, by_run, data_ranges, data_of, data_at, rule_of, range_of, by_ranges};
 
 use crate::fault::{AuxFault, AuxKind};
-use crate::groups::Rule;
-use crate::laying::{Laying, is_outside, moved};
+use crate::groups::SampleProtection;
+use crate::laying::{DataCursor, is_outside, moved};
 use crate::spans::part_of;
-use eme_types::{Items, Iv, Sub, Subs};
+use eme_types::Items;
 use frag_boxes::Trun;
-use iso_boxes::{bytes8, bytes16, fields, u16_at, u32_at};
-use prot_boxes::{ProtKind, Saiz, SencItem, SencItems};
+use prot_boxes::{ProtKind, Saiz, SencItem, SencItems, read_senc_item};
 use std::alloc::{AllocError, Global};
 
 /// Where the data of a sample begins, which may be outside the file, and its size in bytes.
 #[derive(Clone, Copy, Debug)]
-pub struct DataSpot {
+pub struct DataRange {
     pub at: i128,
     pub size: u8,
 }
 
-pub type DataSpots = Items<DataSpot>;
+pub type DataRanges = Items<DataRange>;
 
 // ---- where it stands
 
@@ -44,44 +40,44 @@ fn size_at(saiz: &Saiz, k: usize) -> u8
     }
 }
 
-/// The data of a sample, which begins at `laying`.
-fn data_from(laying: Laying, size: u8) -> DataSpot
-    ensures { result ≡ record { at = laying.at; size = size } }
+/// The data of a sample, which begins at `cursor`.
+fn data_from(cursor: DataCursor, size: u8) -> DataRange
+    ensures { result ≡ record { at = cursor.at; size = size } }
 {
-    DataSpot {
-        at: laying.at,
+    DataRange {
+        at: cursor.at,
         size,
     }
 }
 
-/// The laying behind the data of a sample.
-fn behind(laying: Laying, size: u8) -> Result<Laying, AllocError>
-    ensures { IfOk result (λ x. x ≡ record laying { at = laying.at +ℤ pos size }) }
+/// The cursor behind the data of a sample.
+fn behind(cursor: DataCursor, size: u8) -> Result<DataCursor, AllocError>
+    ensures { IfOk result (λ x. x ≡ record cursor { at = cursor.at +ℤ pos size }) }
 {
-    let at = moved(laying.at, i128::from(size))?;
-    Ok(Laying { at, ..laying })
+    let at = moved(cursor.at, i128::from(size))?;
+    Ok(DataCursor { at, ..cursor })
 }
 
 /// The data of the samples from `first` to before `end`, which follow each other.
 fn follow(
     alloc: Global,
     saiz: &Saiz,
-    start: Laying,
+    start: DataCursor,
     first: usize,
     end: usize,
-) -> Result<DataSpots, AllocError>
+) -> Result<DataRanges, AllocError>
     ensures { IfOk result (λ x. x ≡ follow saiz.now start.at first (end - first)) }
 {
-    let mut spots = Items::new(alloc);
-    let mut laying = start;
+    let mut ranges = Items::new(alloc);
+    let mut cursor = start;
     for k in first..end {
         let size = size_at(saiz, k);
-        let spot = data_from(laying, size);
-        spots.push(spot)?;
-        let next = behind(laying, size)?;
-        laying = next;
+        let range = data_from(cursor, size);
+        ranges.push(range)?;
+        let next = behind(cursor, size)?;
+        cursor = next;
     }
-    Ok(spots)
+    Ok(ranges)
 }
 
 fn offset_of(offsets: &[u64], i: usize) -> u64
@@ -97,15 +93,15 @@ fn offset_of(offsets: &[u64], i: usize) -> u64
 fn follow_from(
     alloc: Global,
     saiz: &Saiz,
-    base: Laying,
+    base: DataCursor,
     offset: u64,
     first: usize,
     end: usize,
-) -> Result<DataSpots, AllocError>
+) -> Result<DataRanges, AllocError>
     ensures { IfOk result (λ x. x ≡ follow saiz.now (base.at +ℤ pos offset) first (end - first)) }
 {
     let at = moved(base.at, i128::from(offset))?;
-    follow(alloc, saiz, Laying { at, ..base }, first, end)
+    follow(alloc, saiz, DataCursor { at, ..base }, first, end)
 }
 
 /// The number behind so many samples from `first` on.
@@ -122,10 +118,10 @@ fn counted_to(first: usize, count: u32) -> Result<usize, AllocError>
 fn by_run(
     alloc: Global,
     saiz: &Saiz,
-    base: Laying,
+    base: DataCursor,
     offsets: &[u64],
     runs: &[Trun],
-) -> Result<DataSpots, AllocError>
+) -> Result<DataRanges, AllocError>
     ensures { IfOk result (λ x. x ≡ by_run saiz.now base.at offsets.now 0 0 runs.now) }
 {
     let mut all = Items::new(alloc);
@@ -134,23 +130,23 @@ fn by_run(
         let run = &runs[i];
         let end = counted_to(first, run.count)?;
         let offset = offset_of(offsets, i);
-        let spots = follow_from(alloc, saiz, base, offset, first, end)?;
-        all.extend_from_slice(spots.as_slice())?;
+        let ranges = follow_from(alloc, saiz, base, offset, first, end)?;
+        all.extend_from_slice(ranges.as_slice())?;
         first = end;
     }
     Ok(all)
 }
 
 /// Where the data of each of the `n` samples stands. Offsets count from the base.
-pub fn data_spots(
+pub fn data_ranges(
     alloc: Global,
     saiz: &Saiz,
-    base: Laying,
+    base: DataCursor,
     offsets: &[u64],
     runs: &[Trun],
     n: usize,
-) -> Result<DataSpots, AllocError>
-    ensures { IfOk result (λ x. x ≡ data_spots saiz.now base.at offsets.now runs.now n) }
+) -> Result<DataRanges, AllocError>
+    ensures { IfOk result (λ x. x ≡ data_ranges saiz.now base.at offsets.now runs.now n) }
 {
     if offsets.len() == 1 {
         follow_from(alloc, saiz, base, offset_of(offsets, 0), 0, n)
@@ -161,69 +157,6 @@ pub fn data_spots(
 
 // ---- what it says
 
-#[tactic(auto, unfolding(prot_boxes::specs::Seig::eight, prot_boxes::specs::Seig::sixteen))]
-fn read_iv(size: u8, rest: &[u8]) -> Result<(Option<Iv>, &[u8]), ProtKind>
-    ensures { ReadsKind (λ x. (x.0, x.1.now)) result (iv_fields size rest.now) }
-{
-    match size {
-        8 => {
-            fields!(rest, ProtKind::Short; iv: bytes8);
-            Ok((Some(Iv::Eight(iv)), rest))
-        }
-        16 => {
-            fields!(rest, ProtKind::Short; iv: bytes16);
-            Ok((Some(Iv::Sixteen(iv)), rest))
-        }
-        _ => Ok((None, rest)),
-    }
-}
-
-#[tactic(auto, unfolding(prot_boxes::specs::Senc::sub))]
-fn read_sub(rest: &[u8]) -> Result<(Sub, &[u8]), ProtKind>
-    ensures { ReadsKind (λ x. (x.0, x.1.now)) result (sub rest.now) }
-{
-    fields!(rest, ProtKind::Short; clear: u16_at, prot: u32_at);
-    Ok((Sub { clear, prot }, rest))
-}
-
-fn read_subs(alloc: Global, count: u16, bytes: &[u8]) -> Result<(Subs, &[u8]), ProtKind>
-    ensures { GivesKind (λ x. (x.0, x.1.now)) result (repeated count sub bytes.now) }
-{
-    let mut subs = Items::new(alloc);
-    let mut rest = bytes;
-    for _ in 0..count {
-        let (sub, after) = read_sub(rest)?;
-        subs.push(sub)?;
-        rest = after;
-    }
-    Ok((subs, rest))
-}
-
-#[tactic(auto, unfolding(prot_boxes::specs::Senc::counted_subs))]
-fn read_subs_if(alloc: Global, present: bool, rest: &[u8]) -> Result<(Subs, &[u8]), ProtKind>
-    ensures { GivesKind (λ x. (x.0, x.1.now)) result (subs_if present rest.now) }
-{
-    if !present {
-        return Ok((Items::new(alloc), rest));
-    }
-    fields!(rest, ProtKind::Short; count: u16_at);
-    read_subs(alloc, count, rest)
-}
-
-#[tactic(auto, unfolding(prot_boxes::specs::Senc::item))]
-fn read_item(
-    alloc: Global,
-    present: bool,
-    size: u8,
-    rest: &[u8],
-) -> Result<(SencItem, &[u8]), ProtKind>
-    ensures { GivesKind (λ x. (x.0, x.1.now)) result (item present size rest.now) }
-{
-    let (iv, rest) = read_iv(size, rest)?;
-    let (subs, rest) = read_subs_if(alloc, present, rest)?;
-    Ok((SencItem { iv, subs }, rest))
-}
-
 /// The IV alone, or followed by its subsamples; all else is of a wrong size.
 fn data_of(alloc: Global, place: u64, iv_size: u8, bytes: &[u8]) -> Result<SencItem, AuxFault>
     ensures { Gives (λ x. x) result (data_of (fault_at place AuxSize) iv_size bytes.now) }
@@ -232,7 +165,7 @@ fn data_of(alloc: Global, place: u64, iv_size: u8, bytes: &[u8]) -> Result<SencI
         place,
         kind: AuxKind::AuxSize,
     };
-    match read_item(alloc, bytes.len() != iv_size as usize, iv_size, bytes) {
+    match read_senc_item(alloc, bytes.len() != iv_size as usize, iv_size, bytes) {
         Ok((item, rest)) => {
             if rest.is_empty() {
                 Ok(item)
@@ -251,10 +184,10 @@ fn data_at(
     file: &[u8],
     sizes: u64,
     offsets: u64,
-    rule: Option<Rule>,
-    spot: DataSpot,
+    rule: Option<SampleProtection>,
+    range: DataRange,
 ) -> Result<SencItem, AuxFault>
-    ensures { Gives (λ x. x) result (data_at file.now sizes offsets rule spot) }
+    ensures { Gives (λ x. x) result (data_at file.now sizes offsets rule range) }
 {
     let Some(rule) = rule else {
         return Ok(SencItem {
@@ -262,17 +195,17 @@ fn data_at(
             subs: Items::new(alloc),
         });
     };
-    if is_outside(file.len() as u64, spot.at, u32::from(spot.size)) {
+    if is_outside(file.len() as u64, range.at, u32::from(range.size)) {
         return Err(AuxFault {
             place: offsets,
             kind: AuxKind::OffsetPastEnd,
         });
     }
-    let bytes = part_of(file, spot.at as u64, u64::from(spot.size));
+    let bytes = part_of(file, range.at as u64, u64::from(range.size));
     data_of(alloc, sizes, rule.group.iv_size, bytes)
 }
 
-pub fn rule_of(rules: &[Option<Rule>], k: usize) -> Option<Rule>
+pub fn rule_of(rules: &[Option<SampleProtection>], k: usize) -> Option<SampleProtection>
     ensures { result ≡ rule_of rules.now k }
 {
     match rules.get(k) {
@@ -281,32 +214,32 @@ pub fn rule_of(rules: &[Option<Rule>], k: usize) -> Option<Rule>
     }
 }
 
-fn spot_of(spots: &[DataSpot], k: usize) -> DataSpot
-    ensures { result ≡ spot_of spots.now k }
+fn range_of(ranges: &[DataRange], k: usize) -> DataRange
+    ensures { result ≡ range_of ranges.now k }
 {
-    match spots.get(k) {
-        Some(spot) => *spot,
-        None => DataSpot { at: 0, size: 0 },
+    match ranges.get(k) {
+        Some(range) => *range,
+        None => DataRange { at: 0, size: 0 },
     }
 }
 
 /// What the data of each sample says. A refusal of a size has the place `sizes`, one of a place has the place `offsets`.
-#[tactic(auto, unfolding(crate::specs::Auxiliary::by_spots))]
-pub fn by_spots(
+#[tactic(auto, unfolding(crate::specs::Auxiliary::by_ranges))]
+pub fn by_ranges(
     alloc: Global,
     file: &[u8],
     sizes: u64,
     offsets: u64,
-    rules: &[Option<Rule>],
-    spots: &[DataSpot],
+    rules: &[Option<SampleProtection>],
+    ranges: &[DataRange],
 ) -> Result<SencItems, AuxFault>
-    ensures { Gives (λ x. x) result (by_spots file.now sizes offsets rules.now spots.now) }
+    ensures { Gives (λ x. x) result (by_ranges file.now sizes offsets rules.now ranges.now) }
 {
     let mut items = Items::new(alloc);
     for k in 0..rules.len() {
         let rule = rule_of(rules, k);
-        let spot = spot_of(spots, k);
-        let item = data_at(alloc, file, sizes, offsets, rule, spot)?;
+        let range = range_of(ranges, k);
+        let item = data_at(alloc, file, sizes, offsets, rule, range)?;
         items.push(item)?;
     }
     Ok(items)

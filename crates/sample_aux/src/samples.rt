@@ -1,20 +1,22 @@
 // The samples of a track fragment.
-ghost use Rattle.std.specs.Prelude.{◌≡◌, IfOk};
+ghost use Rattle.std.specs.Prelude.{◌≡◌, drop, length, IfOk};
+ghost use Rattle.std.specs.Vec.Iter.{into_iter_items, into_iter_len};
 ghost use Rattle.sample_aux.specs.Faults.{Gives};
 ghost use Rattle.sample_aux.specs.InOrder.{each_passes};
 ghost use Rattle.sample_aux.specs.Resolve.{iv_of, protect_of, item_of, place_of, sample_at, samples_at, has_subs, check_place, sample_passes, samples_of};
 
-use crate::auxiliary::auxiliary_of;
+use crate::auxiliary::{Auxiliary, auxiliary_of};
 use crate::fault::{AuxFault, AuxKind};
-use crate::groups::{Protection, Rule};
-use crate::laying::{Laying, Spot};
+use crate::groups::{Protection, SampleProtection};
+use crate::laying::{DataCursor, SampleRange};
 use crate::sample_data::rule_of;
 use crate::spans::part_of;
-use eme_types::{Bytes, Copies, EncSample, Items, Iv, KeyId, Protect, Samples};
+use eme_types::{Bytes, EncSample, Items, Iv, KeyId, KeyIdFault, Protect, Samples};
 use frag_boxes::Traf;
 use pattern_map::check_sample;
-use prot_boxes::SencItem;
+use prot_boxes::{SencItem, SencItems};
 use std::alloc::{AllocError, Global};
+use std::vec::IntoIter;
 
 fn iv_of(own: Option<Iv>, constant: Option<Iv>) -> Option<Iv>
     ensures { result ≡ iv_of own constant }
@@ -30,14 +32,15 @@ fn key_id(alloc: Global, kid: [u8; 16]) -> Result<KeyId, AllocError>
 {
     match KeyId::new(alloc, &kid) {
         Ok(kid) => Ok(kid),
-        Err(_) => Err(AllocError),
+        Err(KeyIdFault::Length) => unreachable!(),
+        Err(KeyIdFault::OutOfMemory) => Err(AllocError),
     }
 }
 
 fn protect_of(
     alloc: Global,
     place: u64,
-    rule: Option<Rule>,
+    rule: Option<SampleProtection>,
     item: SencItem,
 ) -> Result<Option<Protect>, AuxFault>
     ensures { Gives (λ x. x) result (protect_of place rule item) }
@@ -62,28 +65,28 @@ fn protect_of(
     }))
 }
 
-/// A copy of what auxiliary data says of sample `k`, or nothing.
-fn item_of(alloc: Global, items: &[SencItem], k: usize) -> Result<SencItem, AllocError>
-    ensures { IfOk result (λ x. x ≡ item_of items.now k) }
+/// What auxiliary data says of the next sample; nothing past its end.
+fn next_item(alloc: Global, items: &mut IntoIter<SencItem>) -> SencItem
+    requires { into_iter_len items.old ≡ length (into_iter_items items.old) }
+    ensures item { result ≡ item_of (into_iter_items items.old) 0 }
+    ensures rest { into_iter_items items.new ≡ drop 1 (into_iter_items items.old) }
+    ensures len { into_iter_len items.new ≡ length (into_iter_items items.new) }
 {
-    match items.get(k) {
-        Some(item) => {
-            let subs = item.subs.copy()?;
-            Ok(SencItem { iv: item.iv, subs })
-        }
-        None => Ok(SencItem {
+    match items.next() {
+        Some(item) => item,
+        None => SencItem {
             iv: None,
             subs: Items::new(alloc),
-        }),
+        },
     }
 }
 
-fn place_of(spots: &[Spot], k: usize) -> Spot
-    ensures { result ≡ place_of spots.now k }
+fn place_of(ranges: &[SampleRange], k: usize) -> SampleRange
+    ensures { result ≡ place_of ranges.now k }
 {
-    match spots.get(k) {
-        Some(spot) => *spot,
-        None => Spot { place: 0, size: 0 },
+    match ranges.get(k) {
+        Some(range) => *range,
+        None => SampleRange { place: 0, size: 0 },
     }
 }
 
@@ -92,14 +95,14 @@ fn sample_at(
     alloc: Global,
     file: &[u8],
     place: u64,
-    spot: Spot,
-    rule: Option<Rule>,
+    range: SampleRange,
+    rule: Option<SampleProtection>,
     item: SencItem,
 ) -> Result<EncSample, AuxFault>
-    ensures { Gives (λ x. x) result (sample_at file.now place spot rule item) }
+    ensures { Gives (λ x. x) result (sample_at file.now place range rule item) }
 {
     let protect = protect_of(alloc, place, rule, item)?;
-    let bytes = Bytes::from_slice(alloc, part_of(file, spot.place, u64::from(spot.size)))?;
+    let bytes = Bytes::from_slice(alloc, part_of(file, range.place, u64::from(range.size)))?;
     Ok(EncSample { protect, bytes })
 }
 
@@ -108,18 +111,19 @@ fn samples_at(
     alloc: Global,
     file: &[u8],
     place: u64,
-    spots: &[Spot],
-    rules: &[Option<Rule>],
-    items: &[SencItem],
+    ranges: &[SampleRange],
+    rules: &[Option<SampleProtection>],
+    items: SencItems,
 ) -> Result<Samples, AuxFault>
-    ensures { Gives (λ x. x) result (samples_at file.now place spots.now rules.now items.now) }
+    ensures { Gives (λ x. x) result (samples_at file.now place ranges.now rules.now items) }
 {
     let mut samples = Items::new(alloc);
-    for k in 0..spots.len() {
-        let spot = place_of(spots, k);
+    let mut left = items.into_vec().into_iter();
+    for k in 0..ranges.len() {
+        let range = place_of(ranges, k);
         let rule = rule_of(rules, k);
-        let item = item_of(alloc, items, k)?;
-        let sample = sample_at(alloc, file, place, spot, rule, item)?;
+        let item = next_item(alloc, &mut left);
+        let sample = sample_at(alloc, file, place, range, rule, item)?;
         samples.push(sample)?;
     }
     Ok(samples)
@@ -171,22 +175,16 @@ pub fn samples_of(
     alloc: Global,
     file: &[u8],
     traf: &Traf,
-    base: Laying,
-    spots: &[Spot],
+    base: DataCursor,
+    ranges: &[SampleRange],
     protection: &Protection,
 ) -> Result<Samples, AuxFault>
-    ensures { Gives (λ x. x) result (samples_of file.now traf.now base.at spots.now protection.now) }
+    ensures { Gives (λ x. x) result (samples_of file.now traf.now base.at ranges.now protection.now) }
 {
     let rules = protection.rules.as_slice();
     let auxiliary = auxiliary_of(alloc, file, protection.entry, traf, base, rules)?;
-    let samples = samples_at(
-        alloc,
-        file,
-        traf.place,
-        spots,
-        rules,
-        auxiliary.items.as_slice(),
-    )?;
-    check_samples(auxiliary.senc, traf.place, samples.as_slice())?;
+    let Auxiliary { senc, items } = auxiliary;
+    let samples = samples_at(alloc, file, traf.place, ranges, rules, items)?;
+    check_samples(senc, traf.place, samples.as_slice())?;
     Ok(samples)
 }

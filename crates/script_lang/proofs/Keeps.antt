@@ -1,10 +1,12 @@
 -- The lines of a script keep what every script keeps.
-use Rattle.std.proofs.Common.{◌≡◌, ◌<◌, ◌≤◌, ◌+◌, ℕ, Bool, true, false, cond, List, [], ◌∷◌, ◌++◌, length, Option, Some, None, Result, Ok, refl, sym, subst, ◌∙◌, arith, IsTrue}
+use Rattle.std.proofs.Common.{◌≡◌, ◌<◌, ◌≤◌, ◌+◌, ◌-◌, ℕ, Bool, true, false, cond, List, [], ◌∷◌, ◌++◌, length, Option, Some, None, Result, Ok, refl, sym, subst, ◌∙◌, arith, IsTrue}
 use Rattle.std.specs.Prelude.{not, ◌&&◌, ◌==◌, nat_lt, nat_le, is_none, unwrap_or, fold, codes}
 use Rattle.std.specs.Option.{option_or}
 use Rattle.std.specs.List.{list_all}
 use Rattle.std.specs.Str.{is_utf8, bytes_eq}
 use borrow.Author.Tests.{ltb-false}
+use Rattle.std.specs.Str.Parse.{digits_value}
+use Rattle.std.proofs.lemmas.Bool.{and_parts, leb-true, not-false}
 use Rattle.std.proofs.lemmas.List.Folds.{list_all-append}
 use Rattle.std.proofs.lemmas.List.Sums.{fold-append}
 use Rattle.std.proofs.lemmas.Slice.Eq.{bytes_eq-Decides}
@@ -12,11 +14,14 @@ use Rattle.script_lang.specs.declared.verb.Verb.{Verb}
 use Rattle.script_lang.specs.declared.verb.Verb.TheVariants.{Access, Create, Request, Update, Close, Remove, Certificate, Feed, Clock, Settle}
 use Rattle.script_lang.specs.declared.script.Line.{Line}
 use Rattle.script_lang.specs.declared.fault.ScriptKind.{ScriptKind}
-use Rattle.script_lang.specs.Lines.{lines_of}
+use Rattle.text_words.specs.Lines.{lines_of}
+use Rattle.text_words.specs.Words.{first_word}
+use Rattle.text_words.specs.Numbers.{number_up_to, is_number}
+use Rattle.eme_types.specs.declared.limits.TheConstants.{MAX_LANES, MAX_MOMENT, MAX_SCRIPT_LINES}
 use Rattle.script_lang.specs.Script.{numbers_rise, lane_fits, moment_fits, moment_after, moments_rise, IsScript}
-use Rattle.script_lang.specs.Words.{first_word, lane_of, acts}
+use Rattle.script_lang.specs.Words.{lane_of, acts}
 use Rattle.script_lang.specs.Verbs.{is_of_lane_0}
-use Rattle.script_lang.specs.Content.{moment_of, in_range, is_decimal, decimal, max_moment}
+use Rattle.script_lang.specs.Content.{moment_of}
 use Rattle.script_lang.specs.Rules.{lane_in, verb_in, first_in, second_in, last_in, words_fault, words_fault_of, label_fault, moment_fault, content_fault, parts_fault, action_fault, line_fault}
 use Rattle.script_lang.specs.Grammar.{action_of, action_line, meaning, meanings, created, moment_at_end, unless_refused, file_fault, script_of}
 use Rattle.script_lang.proofs.Walk.{walk, past, script_walk}
@@ -47,46 +52,37 @@ either_none : {K : Type 0} (a b : Option K) → option_or a b ≡ None → (a �
 either_none None b e = (refl, e)
 either_none (Some x) b e = absurd cc
 
-in_range_le : (value moment : ℕ) → in_range value ≡ Some moment → moment ≤ max_moment
-in_range_le value moment e = by_test (nat_le value max_moment) refl
-  where
-    by_test : (b : Bool) → nat_le value max_moment ≡ b → moment ≤ max_moment
-    by_test true le = let same : value ≡ moment = cc in grind arith
-    by_test false le = absurd cc
+in_limit : (b : Bool) (value most moment : ℕ) → cond b (Some value) None ≡ Some moment → (b ≡ true → value ≤ most) → moment ≤ most
+in_limit true value most moment e le = let same : value ≡ moment = cc in omega (arith, same, le refl)
+in_limit false value most moment e le = absurd cc
 
-moment_small : (text : List ℕ) (moment : ℕ) → moment_of text ≡ Some moment → moment ≤ max_moment
-moment_small text moment e = by_test (is_decimal text) refl
-  where
-    by_test : (b : Bool) → is_decimal text ≡ b → moment ≤ max_moment
-    by_test true good = in_range_le (decimal text) moment cc
-    by_test false bad = absurd cc
+moment_small : (text : List ℕ) (moment : ℕ) → moment_of text ≡ Some moment → moment ≤ MAX_MOMENT
+unfolding number_up_to
+moment_small text moment e = in_limit (is_number text && nat_le (digits_value 10 text) MAX_MOMENT) (digits_value 10 text) MAX_MOMENT moment e (λ passes.
+    leb-true _ _ (and_parts (is_number text) _ passes).1)
 
-clock_fits : (last : ℕ) (found : Option ℕ) → ((m : ℕ) → found ≡ Some m → m ≤ max_moment) → (is_none found ≡ false) → nat_lt (unwrap_or found 0) last ≡ false
-    → IsTrue (nat_le last (unwrap_or found 0) && nat_le (unwrap_or found 0) max_moment)
+clock_fits : (last : ℕ) (found : Option ℕ) → ((m : ℕ) → found ≡ Some m → m ≤ MAX_MOMENT) → (is_none found ≡ false) → nat_lt (unwrap_or found 0) last ≡ false
+    → IsTrue (nat_le last (unwrap_or found 0) && nat_le (unwrap_or found 0) MAX_MOMENT)
 clock_fits last None small some above = absurd cc
-clock_fits last (Some m) small some above = let le : m ≤ max_moment = small m refl in let later : last ≤ m = ltb-false m last above in grind arith
+clock_fits last (Some m) small some above = let le : m ≤ MAX_MOMENT = small m refl in let later : last ≤ m = ltb-false m last above in grind arith
 
-moment_passes : (last : ℕ) (text : List ℕ) → moment_fault last text ≡ None → IsTrue (nat_le last (unwrap_or (moment_of text) 0) && nat_le (unwrap_or (moment_of text) 0) max_moment)
+moment_passes : (last : ℕ) (text : List ℕ) → moment_fault last text ≡ None → IsTrue (nat_le last (unwrap_or (moment_of text) 0) && nat_le (unwrap_or (moment_of text) 0) MAX_MOMENT)
 moment_passes last text e =
     let number = refused_not (is_none (moment_of text)) _ _ e in
     let back = refused_not (nat_lt (unwrap_or (moment_of text) 0) last) _ _ number.1 in
     clock_fits last (moment_of text) (moment_small text) number.0 back.0
 
-lane_le : (word : List ℕ) → nat_le (unwrap_or (lane_of word) 0) 7 ≡ true
-lane_le [] = refl
-lane_le (digit ∷ []) = by_test (nat_le 48 digit && nat_le digit 55) refl
+lane_lt : (word : List ℕ) → nat_lt (unwrap_or (lane_of word) 0) MAX_LANES ≡ true
+lane_lt [] = refl
+lane_lt (digit ∷ []) = by_test (nat_le 48 digit && nat_lt (digit - 48) MAX_LANES) refl
   where
-    by_test : (b : Bool) → (nat_le 48 digit && nat_le digit 55) ≡ b → nat_le (unwrap_or (lane_of (digit ∷ [])) 0) 7 ≡ true
-    by_test true e = rw e (grind arith)
+    by_test : (b : Bool) → (nat_le 48 digit && nat_lt (digit - 48) MAX_LANES) ≡ b → nat_lt (unwrap_or (lane_of (digit ∷ [])) 0) MAX_LANES ≡ true
+    by_test true e = rw e (and_parts _ _ e).1
     by_test false e = rw e refl
-lane_le (digit ∷ b ∷ more) = refl
-
-lane_0 : (b : Bool) → not b ≡ false → b ≡ true
-lane_0 true e = refl
-lane_0 false e = absurd cc
+lane_lt (digit ∷ b ∷ more) = refl
 
 -- the action of a line that passes fits its lane and the moment before
-action_fits : (verb : Verb) (lane last : ℕ) (first second text : List ℕ) → nat_le lane 7 ≡ true → (is_of_lane_0 verb && not (lane == 0)) ≡ false → content_fault last verb text ≡ None
+action_fits : (verb : Verb) (lane last : ℕ) (first second text : List ℕ) → nat_lt lane MAX_LANES ≡ true → (is_of_lane_0 verb && not (lane == 0)) ≡ false → content_fault last verb text ≡ None
     → IsTrue (lane_fits lane (action_of verb first second text)) × IsTrue (moment_fits last (action_of verb first second text))
 action_fits Access lane last first second text le on_0 e = (le, refl)
 action_fits Create lane last first second text le on_0 e = (le, refl)
@@ -95,9 +91,9 @@ action_fits Update lane last first second text le on_0 e = (le, refl)
 action_fits Close lane last first second text le on_0 e = (le, refl)
 action_fits Remove lane last first second text le on_0 e = (le, refl)
 action_fits Certificate lane last first second text le on_0 e = (le, refl)
-action_fits Feed lane last first second text le on_0 e = (lane_0 (lane == 0) on_0, refl)
-action_fits Clock lane last first second text le on_0 e = (lane_0 (lane == 0) on_0, moment_passes last text e)
-action_fits Settle lane last first second text le on_0 e = (lane_0 (lane == 0) on_0, refl)
+action_fits Feed lane last first second text le on_0 e = (not-false (lane == 0) on_0, refl)
+action_fits Clock lane last first second text le on_0 e = (not-false (lane == 0) on_0, moment_passes last text e)
+action_fits Settle lane last first second text le on_0 e = (not-false (lane == 0) on_0, refl)
 
 abbrev fits : Line → Bool
 fits line = lane_fits line.lane line.action
@@ -114,7 +110,7 @@ acting_fits number labels last line None words parts = absurd cc
 acting_fits number labels last line (Some verb) words parts =
     let lane = refused_not (is_of_lane_0 verb && not (lane_in line == 0)) _ _ words in
     let content = either_none (label_fault labels verb (first_in line)) (content_fault last verb (last_in verb line)) parts in
-    let ok = action_fits verb (lane_in line) last (first_in line) (second_in line) (last_in verb line) (lane_le (first_word line)) lane.0 content.1 in
+    let ok = action_fits verb (lane_in line) last (first_in line) (second_in line) (last_in verb line) (lane_lt (first_word line)) lane.0 content.1 in
     (both _ true ok.0 refl, both _ true ok.1 refl)
 
 action_passes : (number : ℕ) (labels : List (List ℕ)) (last : ℕ) (line : List ℕ) → action_fault labels last line ≡ None → Fit last (action_line number (verb_in line) line)
@@ -140,19 +136,14 @@ line_fits : (number : ℕ) (labels : List (List ℕ)) (last : ℕ) (line : List 
 line_fits number labels last line e =
     let text = refused_not (not (is_utf8 line)) _ _ e in
     by_number number labels last line (number == 1) _ _ text.1 (λ rest.
-    let count = refused_not (nat_lt 4096 number) _ _ rest in meaning_fits number labels last line (acts line) count.1)
+    let count = refused_not (nat_lt MAX_SCRIPT_LINES number) _ _ rest in meaning_fits number labels last line (acts line) count.1)
 
 -- ---- all lines
-
-both_true : (a b : Bool) → IsTrue (a && b) → IsTrue a × IsTrue b
-both_true true true h = (refl, refl)
-both_true true false h = absurd cc
-both_true false b h = absurd cc
 
 moments_rise-append : (last : ℕ) (xs ys : List Line) → IsTrue (moments_rise last xs) → IsTrue (moments_rise (fold (λ moment line. moment_after moment line.action) last xs) ys) → IsTrue (moments_rise last (xs ++ ys))
 moments_rise-append last [] ys front back = back
 moments_rise-append last (x ∷ xs) ys front back =
-    let parts = both_true (moment_fits last x.action) (moments_rise (moment_after last x.action) xs) front in
+    let parts = and_parts (moment_fits last x.action) (moments_rise (moment_after last x.action) xs) front in
     both _ _ parts.0 (moments_rise-append (moment_after last x.action) xs ys parts.1 back)
 
 past_ok : (fault : Option ScriptKind) (number : ℕ) (rest : Result (List Line) (ℕ × ScriptKind)) (s : List Line) → past fault number rest ≡ Ok s → (fault ≡ None) × (rest ≡ Ok s)

@@ -1,6 +1,5 @@
-pub mod LineLemmas
+pub mod Utf8Lemmas
 pub mod LabelLemmas
-pub mod NumberLemmas
 pub mod Walk
 pub mod Keeps
 pub mod TellLemmas

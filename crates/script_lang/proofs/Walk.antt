@@ -7,7 +7,7 @@ use Rattle.std.proofs.lemmas.List.{append-nil}
 use Rattle.script_lang.specs.declared.script.Line.{Line}
 use Rattle.script_lang.specs.declared.fault.ScriptKind.{ScriptKind}
 use Rattle.script_lang.specs.declared.fault.ScriptKind.TheVariants.{Header}
-use Rattle.script_lang.specs.Lines.{lines_of, is_line_feed}
+use Rattle.text_words.specs.Lines.{lines_of, is_line_feed}
 use Rattle.script_lang.specs.Rules.{line_fault}
 use Rattle.script_lang.specs.Grammar.{meaning, meanings, created, moment_at_end, fault_behind, first_fault, file_fault, unless_refused, script_of}
 

@@ -6,6 +6,7 @@ use Rattle.script_lang.specs.declared.fault.ScriptFault.TheVariants.{Refused, Ou
 use Rattle.script_lang.specs.declared.fault.LineFault.{LineFault}
 use Rattle.script_lang.specs.declared.fault.LineFault.TheVariants.{Broken, OutOfMemory}
 
+-- the fault of a line at its number
 abbrev pub fault_at : ℕ → LineFault → ScriptFault
 fault_at line (Broken kind) = Refused line kind
 fault_at line OutOfMemory = NoMemory

@@ -11,7 +11,7 @@ use Rattle.script_lang.specs.declared.fault.ScriptKind.{ScriptKind}
 use Rattle.script_lang.specs.declared.fault.ScriptKind.TheVariants.{Header}
 use Rattle.script_lang.specs.declared.fault.ScriptFault.{ScriptFault}
 use Rattle.script_lang.specs.declared.fault.ScriptFault.TheVariants.{Refused, OutOfMemory}
-use Rattle.script_lang.specs.Lines.{lines_of}
+use Rattle.text_words.specs.Lines.{lines_of}
 use Rattle.script_lang.specs.Words.{acts}
 use Rattle.script_lang.specs.Content.{text_of, data_bytes, moment_of}
 use Rattle.script_lang.specs.Rules.{lane_in, verb_in, first_in, second_in, last_in, line_fault}
@@ -19,6 +19,7 @@ use Rattle.script_lang.specs.Script.{moment_after}
 
 -- ---- what a line does
 
+-- the bytes of data, or none where it is not in its form
 abbrev pub data_in : List ℕ → List ℕ
 data_in text = unwrap_or (data_bytes text) []
 
@@ -35,6 +36,7 @@ action_of FeedVerb first second last = Feed
 action_of ClockVerb first second last = Clock (unwrap_or (moment_of last) 0)
 action_of SettleVerb first second last = Settle
 
+-- the line of this number and verb
 abbrev pub action_line : ℕ → Option Verb → List ℕ → List Line
 action_line number None line = []
 action_line number (Some verb) line =
@@ -51,6 +53,7 @@ meanings number (line ∷ more) = meaning number line ++ meanings (number + 1) m
 
 -- ---- what the lines before a line said
 
+-- the label that an action creates
 abbrev pub created_by : Action → List (List ℕ)
 created_by (Ask (Access name list)) = []
 created_by (Ask (Create label kind)) = label ∷ []
@@ -88,6 +91,7 @@ abbrev pub file_fault : List (List ℕ) → Option (ℕ × ScriptKind)
 file_fault [] = Some (1, Header)
 file_fault (line ∷ more) = first_fault [] (line ∷ more)
 
+-- the lines, unless a rule is broken
 abbrev pub unless_refused : Option (ℕ × ScriptKind) → List Line → Result (List Line) (ℕ × ScriptKind)
 unless_refused None script = Ok script
 unless_refused (Some fault) script = Err fault

@@ -1,5 +1,4 @@
-pub mod Lines
-pub mod Parts
+pub mod Labels
 pub mod Script
 pub mod Words
 pub mod Verbs

@@ -4,6 +4,7 @@ use Rattle.std.specs.Str.{bytes_eq}
 use Rattle.script_lang.specs.declared.verb.Verb.{Verb}
 use Rattle.script_lang.specs.declared.verb.Verb.TheVariants.{Access, Create, Request, Update, Close, Remove, Certificate, Feed, Clock, Settle}
 
+-- the verb of this name
 abbrev pub verb_of : List ℕ → Option Verb
 verb_of word =
     if bytes_eq word (codes "access") then Some Access
@@ -57,6 +58,7 @@ takes_data Feed = false
 takes_data Clock = false
 takes_data Settle = false
 
+-- the verb creates a session
 abbrev pub is_create : Verb → Bool
 is_create Access = false
 is_create Create = true

@@ -1,6 +1,6 @@
 // The labels that lines create.
 ghost use Rattle.std.specs.Prelude.{◌≡◌, [], ◌∷◌, ◌++◌, not, IfOk, if◌then◌else◌};
-ghost use Rattle.script_lang.specs.Parts.{is_among};
+ghost use Rattle.script_lang.specs.Labels.{is_among};
 
 use indexmap::IndexSet;
 use std::alloc::{AllocError, Global};

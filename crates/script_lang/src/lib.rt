@@ -5,7 +5,6 @@ mod actions;
 mod content;
 mod fault;
 mod labels;
-mod lines;
 mod parts;
 mod read;
 mod script;
@@ -16,6 +15,5 @@ mod verb;
 mod words;
 
 pub use fault::{ScriptFault, ScriptKind};
-pub use lines::{cut, next_line};
 pub use read::read_script;
 pub use script::{Action, Line, Script};

@@ -1,14 +1,14 @@
 // Parts of a line.
 ghost use Rattle.std.specs.Prelude.{◌≡◌, Some, MatchResult};
 ghost use Rattle.std.specs.List.{list_all};
-ghost use Rattle.script_lang.specs.Parts.{begins, is_label, is_label_byte};
+ghost use Rattle.script_lang.specs.Labels.{is_label, is_label_byte};
 ghost use Rattle.script_lang.specs.Rules.{after_words, ends_well, has_words, words_fault};
 ghost use Rattle.script_lang.specs.Read.{IsPartsOf};
 
 use crate::fault::ScriptKind;
-use crate::lines::cut;
 use crate::verb::Verb;
-use crate::words::{cut_word, is_empty, is_word, lane_of, next_word};
+use crate::words::lane_of;
+use text_words::{begins, cut_word, is_word, next_word, split_front};
 
 /// The parts of a line that acts. A word is empty where none stands.
 #[derive(Clone, Copy)]
@@ -44,7 +44,7 @@ pub fn parts_of(line: &[u8]) -> Result<Parts<'_>, ScriptKind>
     if !has_words(verb, first, second, end) {
         return Err(ScriptKind::Words);
     }
-    let (_, last) = cut(end, 1);
+    let (_, last) = split_front(end, 1);
     Ok(Parts {
         lane,
         verb,
@@ -73,27 +73,20 @@ fn has_words(verb: Verb, first: &[u8], second: &[u8], end: &[u8]) -> bool
     ensures { result ≡ has_words verb first.now second.now end.now }
 {
     let count = verb.plain_words();
-    !(0 < count && is_empty(first)) && !(1 < count && is_empty(second)) && ends_well(verb, end)
+    !(0 < count && first.is_empty()) && !(1 < count && second.is_empty()) && ends_well(verb, end)
 }
 
 fn ends_well(verb: Verb, end: &[u8]) -> bool
     ensures { result ≡ ends_well verb end.now }
 {
-    let (_, last) = cut(end, 1);
+    let (_, last) = split_front(end, 1);
     if verb.takes_data() {
         is_word(last) || begins(b"text:", last)
     } else if verb.is_clock() {
         is_word(last)
     } else {
-        is_empty(end)
+        end.is_empty()
     }
-}
-
-/// Whether a text begins with a front.
-pub fn begins(front: &[u8], text: &[u8]) -> bool
-    ensures { result ≡ begins front.now text.now }
-{
-    text.strip_prefix(front).is_some()
 }
 
 /// Whether a text is 1 to 32 of the characters `a` to `z`, `0` to `9` and `_`.

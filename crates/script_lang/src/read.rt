@@ -1,6 +1,7 @@
 // The reader.
 ghost use Rattle.std.specs.Prelude.{◌≡◌, ◌≤◌, ◌++◌, Ok, None, false, codes, MatchResult, OnOk, IfErr};
-ghost use Rattle.std.specs.Str.{bytes_eq};
+ghost use Rattle.std.specs.Str.{bytes_eq, is_utf8};
+ghost use Rattle.eme_types.specs.declared.limits.TheConstants.{MAX_SCRIPT_LINES};
 ghost use Rattle.script_lang.specs.Rules.{verb_in, action_fault, line_fault};
 ghost use Rattle.script_lang.specs.Grammar.{action_line, meaning, created, moment_at_end, script_of, EndsAt};
 ghost use Rattle.script_lang.specs.Faults.{Breaks};
@@ -8,14 +9,14 @@ ghost use Rattle.script_lang.specs.Read.{IsTold};
 
 use crate::actions::action_of;
 use crate::fault::{LineFault, ScriptFault, ScriptKind};
-use crate::lines::{is_utf8, next_line};
 use crate::parts::parts_of;
 use crate::script::{Line, Script};
 use crate::told::Told;
 use crate::words::acts;
+use eme_types::MAX_SCRIPT_LINES;
 use std::alloc::Global;
-
-const MAX_LINES: u32 = 4096;
+use std::str::from_utf8;
+use text_words::next_line;
 
 /// Reads a script: its lines that act, in order.
 ///
@@ -40,13 +41,23 @@ pub fn read_script(alloc: Global, bytes: &[u8]) -> Result<Script, ScriptFault>
     Ok(Script::new(told.lines))
 }
 
+/// Whether a text is UTF-8.
+fn is_utf8(text: &[u8]) -> bool
+    ensures { result ≡ is_utf8 text.now }
+{
+    match from_utf8(text) {
+        Ok(_) => true,
+        Err(_) => false,
+    }
+}
+
 /// Reads the line of this number.
 fn read_line(alloc: Global, number: u32, line: &[u8], told: &mut Told) -> Result<(), LineFault>
     requires { IsTold told.old }
     ensures ok { OnOk result (line_fault number (created told.old.lines) (moment_at_end told.old.lines) line.now ≡ None) }
     ensures lines { OnOk result (told.new.lines ≡ told.old.lines ++ meaning number line.now) }
     ensures told { OnOk result (IsTold told.new) }
-    ensures small { OnOk result (number ≤ 4096) }
+    ensures small { OnOk result (number ≤ MAX_SCRIPT_LINES) }
     ensures err { IfErr result (Breaks (line_fault number (created told.old.lines) (moment_at_end told.old.lines) line.now)) }
 {
     if !is_utf8(line) {
@@ -55,7 +66,7 @@ fn read_line(alloc: Global, number: u32, line: &[u8], told: &mut Told) -> Result
     if number == 1 {
         return read_header(line);
     }
-    if MAX_LINES < number {
+    if MAX_SCRIPT_LINES < number {
         return Err(LineFault::Broken(ScriptKind::TooManyLines));
     }
     if !acts(line) {

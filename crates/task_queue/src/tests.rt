@@ -1,3 +1,4 @@
+// Queues, logs and promises by example.
 use crate::{Log, Promises, Queue};
 use eme_types::{DomError, Settled};
 use std::test::Fail;

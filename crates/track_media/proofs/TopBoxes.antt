@@ -1,6 +1,6 @@
 -- A file is read box after box, and what was read of it may be fed.
 use Rattle.std.proofs.Common.{◌≡◌, ◌⊎◌, ℕ, ◌+◌, ◌-◌, ◌≤◌, true, List, [], ◌∷◌, ◌++◌, length, Bool, Option, Some, None, Result, Ok, Err, refl, sym, ap, subst, ◌∙◌, append_assoc, arith, lit≤}
-use Rattle.std.specs.Prelude.{IfOk}
+use Rattle.std.specs.Prelude.{IfOk, IfSome}
 use Rattle.std.specs.List.{list_all, sum_by}
 use Rattle.std.proofs.lemmas.List.{append-nil, length-map}
 use Rattle.std.proofs.lemmas.List.Sums.{sum_by-cons}
@@ -12,9 +12,9 @@ use Rattle.eme_types.specs.declared.media.Fragment.{Fragment}
 use Rattle.eme_types.specs.declared.media.Media.{Media}
 use Rattle.eme_types.specs.Fed.{IsFed, are_distinct, are_known, is_joined, are_well_formed, fragment_samples, fragment_bytes}
 use Rattle.eme_types.specs.declared.limits.TheConstants.{MAX_TRACKS, MAX_SAMPLES, MAX_SAMPLE_BYTES}
-use Rattle.frag_boxes.specs.declared.records.Movie.{Movie}
-use Rattle.frag_boxes.specs.Tracks.{track_id, HasTracks}
+use Rattle.frag_boxes.specs.Tracks.{track_id, track_ids, HasTracks}
 use Rattle.track_media.specs.declared.kind.MediaFault.{MediaFault}
+use Rattle.track_media.specs.declared.top.KnownMovie.{KnownMovie}
 use Rattle.track_media.specs.declared.top.Seen.{Seen}
 use Rattle.track_media.specs.declared.top.TopPart.{TopPart}
 use Rattle.track_media.specs.declared.top.TopPart.TheVariants as part
@@ -22,7 +22,7 @@ use Rattle.track_media.specs.declared.mp4.FileParts.{FileParts}
 use Rattle.track_media.specs.Refusals.{header_fault}
 use Rattle.track_media.specs.Mp4.{top_part_at, movie_in, fragments_in, seen_from, tracks_of, movie_inits, with_first, media_from, media_of_parts, followed_by, mp4_media}
 use Rattle.track_media.specs.File.{GivesMedia}
-use Rattle.track_media.specs.FileParts.{IsOf, Fits, nothing_read, saw, more_fragments, top_added}
+use Rattle.track_media.specs.FileParts.{HasIds, IsOf, Fits, nothing_read, saw, more_fragments, top_added}
 use Rattle.track_media.proofs.Sound.{one_more, sum_end}
 
 -- ---- the parts that were read
@@ -46,13 +46,13 @@ movie_kept (part.Movie m ∷ ps) p e = refl
 movie_kept (part.Fragment f ∷ ps) p e = movie_kept ps p e
 movie_kept (part.Other ∷ ps) p e = movie_kept ps p e
 
-movie_gained : (before : List TopPart) (m : Movie) → movie_in before ≡ None → movie_in (before ++ part.Movie m ∷ []) ≡ Some m
+movie_gained : (before : List TopPart) (m : KnownMovie) → movie_in before ≡ None → movie_in (before ++ part.Movie m ∷ []) ≡ Some m
 movie_gained [] m e = refl
 movie_gained (part.Movie n ∷ ps) m e = absurd cc
 movie_gained (part.Fragment f ∷ ps) m e = movie_gained ps m e
 movie_gained (part.Other ∷ ps) m e = movie_gained ps m e
 
-same_seen : (m n : Option Movie) (a b c d : ℕ) → m ≡ n → a ≡ b → c ≡ d → (let s : Seen = record { movie = m; room = record { samples = a; bytes = c } } in s) ≡ record { movie = n; room = record { samples = b; bytes = d } }
+same_seen : (m n : Option KnownMovie) (a b c d : ℕ) → m ≡ n → a ≡ b → c ≡ d → (let s : Seen = record { movie = m; room = record { samples = a; bytes = c } } in s) ≡ record { movie = n; room = record { samples = b; bytes = d } }
 same_seen m n a b c d e f g = cc
 
 less : (most : ℕ) (n : Fragment → ℕ) (fs : List Fragment) (f : Fragment) → (most - sum_by n fs) - n f ≡ most - sum_by n (fs ++ f ∷ [])
@@ -119,11 +119,12 @@ pub reads_whole : (file : List ℕ) (s : FileParts) (w : Walked) → w ≡ recor
 reads_whole file s w e r =
     let movie : movie_in r.before ≡ s.seen.movie = ap (λ (k : Seen). k.movie) (sym r.seen) in
     let whole : mp4_media file ≡ Ok (media_of_parts file r.before) = ends (top_reader file) r.before w (mp4_media file) e r.all ∙ simp append-nil in
-    whole ∙ ap (λ (m : Option Movie). Ok (media_from file m (fragments_in r.before))) movie ∙ ap (λ (fs : List Fragment). Ok (media_from file s.seen.movie fs)) (sym r.fragments)
+    whole ∙ ap (λ (m : Option KnownMovie). Ok (media_from file m (fragments_in r.before))) movie ∙ ap (λ (fs : List Fragment). Ok (media_from file s.seen.movie fs)) (sym r.fragments)
 
 -- ---- what was read may be fed
 
 pub record Sound (s : FileParts) : Type 0 where
+  pub ids : IfSome s.seen.movie (λ m. HasIds m)
   pub few : length (tracks_of s.seen.movie) ≤ MAX_TRACKS
   pub distinct : are_distinct (tracks_of s.seen.movie) ≡ true
   pub early : s.seen.movie ≡ None → s.fragments ≡ []
@@ -134,13 +135,14 @@ pub record Sound (s : FileParts) : Type 0 where
   pub bytes : sum_by fragment_bytes s.fragments + s.seen.room.bytes ≡ MAX_SAMPLE_BYTES
 
 pub nothing_sound : Sound nothing_read
-nothing_sound = record { few = lit≤ tt; distinct = refl; early = λ e. refl; known = refl; joined = refl; formed = refl; samples = refl; bytes = refl }
+nothing_sound = record { ids = tt; few = lit≤ tt; distinct = refl; early = λ e. refl; known = refl; joined = refl; formed = refl; samples = refl; bytes = refl }
 
-movie_sound : (s : FileParts) (m : Movie) → s.seen.movie ≡ None → HasTracks m → Sound s → Sound (top_added s (part.Movie m))
-movie_sound s m none tracks st =
+movie_sound : (s : FileParts) (m : KnownMovie) → s.seen.movie ≡ None → HasTracks m.movie → HasIds m → Sound s → Sound (top_added s (part.Movie m))
+movie_sound s m none tracks ids st =
     let empty : s.fragments ≡ [] = st.early none in
     record {
-      few = omega (arith, tracks.few, length-map m.tracks track_id);
+      ids = ids;
+      few = omega (arith, tracks.few, length-map m.movie.tracks track_id);
       distinct = tracks.distinct;
       early = λ e. absurd cc;
       known = subst (λ (fs : List Fragment). list_all (are_known (tracks_of (Some m))) fs ≡ true) (sym empty) refl;
@@ -156,8 +158,11 @@ taken sum n left most e le = omega (arith, e, le)
 
 fragment_sound : (s : FileParts) (f : Fragment) → IsOf s.seen f → Sound s → Sound (top_added s (part.Fragment f))
 fragment_sound s f of st =
-    let known : are_known (tracks_of s.seen.movie) f ≡ true = subst (λ (o : Option Movie). are_known (tracks_of o) f ≡ true) (sym of.seen_movie) of.within.known in
+    let ids : HasIds of.movie = subst (λ (o : Option KnownMovie). IfSome o (λ m. HasIds m)) of.seen_movie st.ids in
+    let of_movie : are_known (track_ids of.movie.movie) f ≡ true = subst (λ (ts : List ℕ). are_known ts f ≡ true) ids of.within.known in
+    let known : are_known (tracks_of s.seen.movie) f ≡ true = subst (λ (o : Option KnownMovie). are_known (tracks_of o) f ≡ true) (sym of.seen_movie) of_movie in
     record {
+      ids = st.ids;
       few = st.few;
       distinct = st.distinct;
       early = λ e. absurd (let no' : Some of.movie ≡ None = sym of.seen_movie ∙ e in cc);
@@ -169,7 +174,7 @@ fragment_sound s f of st =
     }
 
 pub sound_on : (s : FileParts) (p : TopPart) → Fits s.seen p → Sound s → Sound (top_added s p)
-sound_on s (part.Movie m) fits st = movie_sound s m fits.0 fits.1 st
+sound_on s (part.Movie m) fits st = movie_sound s m fits.0 fits.1.0 fits.1.1 st
 sound_on s (part.Fragment f) fits st = fragment_sound s f fits st
 sound_on s part.Other fits st = st
 

@@ -2,9 +2,10 @@
 use Rattle.std.specs.Prelude.{◌≡◌, ◌-◌, ◌≤◌, List, [], ◌∷◌, ◌++◌, Some, None, IsTrue}
 use Rattle.eme_types.specs.declared.media.Fragment.{Fragment}
 use Rattle.eme_types.specs.Fed.{are_known, is_joined, are_well_formed, fragment_samples, fragment_bytes}
-use Rattle.frag_boxes.specs.declared.records.Movie.{Movie}
 use Rattle.frag_boxes.specs.Tracks.{track_ids, HasTracks}
 use Rattle.sample_aux.specs.declared.fragment.Room.{Room}
+use Rattle.sample_aux.specs.Checked.{protected_ids}
+use Rattle.track_media.specs.declared.top.KnownMovie.{KnownMovie}
 use Rattle.track_media.specs.declared.top.Seen.{Seen}
 use Rattle.track_media.specs.declared.top.TopPart.{TopPart}
 use Rattle.track_media.specs.declared.top.TopPart.TheVariants as part
@@ -32,9 +33,13 @@ top_added s p = record { seen = saw s.seen p; fragments = more_fragments s.fragm
 
 -- ---- what is kept by every part that is not refused
 
+-- what is kept of the movie's protection is that of its tracks
+abbrev pub HasIds : KnownMovie → Type 0
+HasIds m = protected_ids m.protection ≡ track_ids m.movie
+
 -- a fragment of a movie, inside a room
-pub record IsWithin (room : Room) (m : Movie) (f : Fragment) : Type 0 where
-  pub known : IsTrue (are_known (track_ids m) f)
+pub record IsWithin (room : Room) (m : KnownMovie) (f : Fragment) : Type 0 where
+  pub known : IsTrue (are_known (protected_ids m.protection) f)
   pub joined : IsTrue (is_joined f)
   pub formed : IsTrue (are_well_formed f)
   pub samples : fragment_samples f ≤ room.samples
@@ -42,11 +47,11 @@ pub record IsWithin (room : Room) (m : Movie) (f : Fragment) : Type 0 where
 
 -- a fragment behind its movie, inside the room that is left
 pub record IsOf (seen : Seen) (f : Fragment) : Type 0 where
-  pub movie : Movie
+  pub movie : KnownMovie
   pub seen_movie : seen.movie ≡ Some movie
   pub within : IsWithin seen.room movie f
 
 abbrev pub Fits : Seen → TopPart → Type 0
-Fits seen (part.Movie m) = (seen.movie ≡ None) × HasTracks m
+Fits seen (part.Movie m) = (seen.movie ≡ None) × (HasTracks m.movie × HasIds m)
 Fits seen (part.Fragment f) = IsOf seen f
 Fits seen part.Other = Unit {0}

@@ -9,36 +9,36 @@ use Rattle.eme_types.specs.Fed.{fragment_samples, fragment_bytes}
 use Rattle.eme_types.specs.declared.limits.TheConstants.{MAX_SAMPLES, MAX_SAMPLE_BYTES}
 use Rattle.iso_boxes.specs.Walk.{Found, walk}
 use Rattle.iso_boxes.specs.Children.{◌>>=◌, all_knowing}
-use Rattle.frag_boxes.specs.declared.records.Movie.{Movie}
 use Rattle.frag_boxes.specs.Moov.{moov_at}
 use Rattle.frag_boxes.specs.Moof.{moof_at}
 use Rattle.frag_boxes.specs.Tracks.{track_ids}
 use Rattle.sample_aux.specs.declared.fragment.Room.{Room}
-use Rattle.sample_aux.specs.Checked.{movie_passes}
+use Rattle.sample_aux.specs.Checked.{movie_passes, movie_protection}
 use Rattle.sample_aux.specs.Inits.{inits_of}
-use Rattle.sample_aux.specs.Resolve.{resolved}
+use Rattle.sample_aux.specs.Resolve.{known_resolved}
 use Rattle.track_media.specs.declared.kind.MediaFault.{MediaFault}
 use Rattle.track_media.specs.declared.kind.MediaFault.TheVariants.{Refused}
 use Rattle.track_media.specs.declared.kind.MediaKind.TheVariants.{NoMoov, SecondMoov}
 use Rattle.track_media.specs.declared.top.TopBox.{TopBox}
 use Rattle.track_media.specs.declared.top.TopBox.TheVariants as top
+use Rattle.track_media.specs.declared.top.KnownMovie.{KnownMovie}
 use Rattle.track_media.specs.declared.top.Seen.{Seen}
 use Rattle.track_media.specs.declared.top.TopPart.{TopPart}
 use Rattle.track_media.specs.declared.top.TopPart.TheVariants as part
 use Rattle.track_media.specs.Refusals.{header_fault, frag_fault, aux_fault, told}
 
--- a movie is read as boxes, and then the protection in it
-unfoldable pub movie_at : List ℕ → Found → Result Movie MediaFault
+-- a movie is read as boxes, and then the protection in it, which is kept
+unfoldable pub movie_at : List ℕ → Found → Result KnownMovie MediaFault
 movie_at file b = do
   movie ← told frag_fault (moov_at b)
   passed ← told aux_fault (movie_passes file movie)
-  Ok movie
+  Ok (record { movie = movie; protection = movie_protection file movie })
 
 -- a movie fragment is read as boxes, and then its samples within the room that the limits leave
-unfoldable pub fragment_at : List ℕ → Movie → Room → Found → Result Fragment MediaFault
+unfoldable pub fragment_at : List ℕ → KnownMovie → Room → Found → Result Fragment MediaFault
 fragment_at file movie room b = do
   moof ← told frag_fault (moof_at b)
-  told aux_fault (resolved file movie moof room)
+  told aux_fault (known_resolved file movie.protection moof room)
 
 -- ---- a box at the top level
 
@@ -46,12 +46,12 @@ unfoldable pub top_box : List ℕ → TopBox
 top_box kind = if bytes_eq kind (codes "moov") then top.Moov else if bytes_eq kind (codes "moof") then top.Moof else top.Other
 
 -- a file has one movie
-abbrev pub moov_part : List ℕ → Option Movie → Found → Result TopPart MediaFault
+abbrev pub moov_part : List ℕ → Option KnownMovie → Found → Result TopPart MediaFault
 moov_part file None b = movie_at file b >>= λ m. Ok (part.Movie m)
 moov_part file (Some m) b = Err (Refused b.place SecondMoov)
 
 -- the movie stands before its fragments
-abbrev pub moof_part : List ℕ → Option Movie → Room → Found → Result TopPart MediaFault
+abbrev pub moof_part : List ℕ → Option KnownMovie → Room → Found → Result TopPart MediaFault
 moof_part file None room b = Err (Refused b.place NoMoov)
 moof_part file (Some m) room b = fragment_at file m room b >>= λ f. Ok (part.Fragment f)
 
@@ -66,7 +66,7 @@ top_part_at file seen b = top_part_as (top_box b.kind) file seen b
 -- ---- the file
 
 -- the movie among these parts
-abbrev pub movie_in : List TopPart → Option Movie
+abbrev pub movie_in : List TopPart → Option KnownMovie
 movie_in [] = None
 movie_in (part.Movie m ∷ ps) = Some m
 movie_in (_ ∷ ps) = movie_in ps
@@ -86,21 +86,21 @@ abbrev pub seen_from : List TopPart → Seen
 seen_from before = record { movie = movie_in before; room = room_behind (fragments_in before) }
 
 -- the tracks of the movie in file order
-abbrev pub tracks_of : Option Movie → List ℕ
+abbrev pub tracks_of : Option KnownMovie → List ℕ
 tracks_of None = []
-tracks_of (Some m) = track_ids m
+tracks_of (Some m) = track_ids m.movie
 
 -- the pssh boxes directly in the movie, whole and in file order, are one initialization data
-abbrev pub movie_inits : List ℕ → Option Movie → List InitData
+abbrev pub movie_inits : List ℕ → Option KnownMovie → List InitData
 movie_inits file None = []
-movie_inits file (Some m) = inits_of file m.psshs
+movie_inits file (Some m) = inits_of file m.movie.psshs
 
 -- it stands before that of the first fragment
 abbrev pub with_first : List InitData → List Fragment → List Fragment
 with_first inits [] = []
 with_first inits (f ∷ fs) = record f { inits = inits ++ f.inits } ∷ fs
 
-abbrev pub media_from : List ℕ → Option Movie → List Fragment → Media
+abbrev pub media_from : List ℕ → Option KnownMovie → List Fragment → Media
 media_from file movie fragments = record { tracks = tracks_of movie; fragments = with_first (movie_inits file movie) fragments }
 
 -- the media of all boxes; a file without a movie has no track and no fragment

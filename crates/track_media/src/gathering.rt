@@ -11,10 +11,6 @@ use std::alloc::{AllocError, Global};
 use std::marker::Model;
 use std::mem;
 
-const MAX_SAMPLES: u32 = 1048576;
-
-const MAX_BYTES: u64 = 67108864;
-
 /// The tracks, the fragments that are whole, and the open fragment with one part for each track.
 #[derive(Drop)]
 pub struct Gathered {
@@ -99,7 +95,7 @@ impl Gathered {
                 tracks: TrackIds::new(alloc),
                 begun: false,
                 samples: MAX_SAMPLES,
-                bytes: MAX_BYTES,
+                bytes: MAX_SAMPLE_BYTES,
             },
             fragments: Fragments::new(alloc),
             inits: Inits::new(alloc),

@@ -9,16 +9,12 @@ ghost use Rattle.track_media.specs.Mp4.{with_first, media_from, mp4_media};
 use crate::kind::MediaFault;
 use crate::room::less_room;
 use crate::top::{Seen, TopPart, read_top_part};
-use eme_types::{Fragments, Inits, Items, Media, TrackIds};
+use eme_types::{Fragments, Inits, Items, MAX_SAMPLE_BYTES, MAX_SAMPLES, Media, TrackIds};
 use frag_boxes::MovieTrack;
 use iso_boxes::Boxes;
 use sample_aux::{Room, init_data_of};
 use std::alloc::{AllocError, Global};
 use std::mem;
-
-const MAX_SAMPLES: u32 = 1048576;
-
-const MAX_BYTES: u64 = 67108864;
 
 fn track_ids(alloc: Global, tracks: &[MovieTrack]) -> Result<TrackIds, AllocError>
     ensures { IfOk result (λ ids. ids ≡ map track_id tracks.now) }
@@ -68,7 +64,7 @@ impl FileParts {
                 movie: None,
                 room: Room {
                     samples: MAX_SAMPLES,
-                    bytes: MAX_BYTES,
+                    bytes: MAX_SAMPLE_BYTES,
                 },
             },
             fragments: Fragments::new(alloc),
@@ -101,9 +97,9 @@ impl FileParts {
                 tracks: TrackIds::new(alloc),
                 fragments,
             }),
-            Some(movie) => {
-                let tracks = track_ids(alloc, movie.tracks.as_slice())?;
-                let inits = init_data_of(alloc, file, movie.psshs.as_slice())?;
+            Some(known) => {
+                let tracks = track_ids(alloc, known.movie.tracks.as_slice())?;
+                let inits = init_data_of(alloc, file, known.movie.psshs.as_slice())?;
                 let fragments = with_first(alloc, inits, fragments)?;
                 Ok(Media { tracks, fragments })
             }

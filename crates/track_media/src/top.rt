@@ -3,14 +3,14 @@ ghost use Rattle.std.specs.Prelude.{◌≡◌, ◌+◌, ◌<◌, ◌^◌, length
 ghost use Rattle.iso_boxes.specs.Walk.{found};
 ghost use Rattle.frag_boxes.specs.Tracks.{HasTracks};
 ghost use Rattle.track_media.specs.File.{GivesMedia};
-ghost use Rattle.track_media.specs.FileParts.{IsWithin, Fits};
+ghost use Rattle.track_media.specs.FileParts.{HasIds, IsWithin, Fits};
 ghost use Rattle.track_media.specs.Mp4.{top_box, movie_at, fragment_at, top_part_at};
 
 use crate::kind::{MediaFault, MediaKind};
 use eme_types::Fragment;
 use frag_boxes::{Movie, read_moof, read_moov};
 use iso_boxes::BoxRef;
-use sample_aux::{Room, check_movie, resolve};
+use sample_aux::{MovieProtection, Room, read_protection, resolve_known};
 use std::alloc::Global;
 
 /// The types of boxes that matter at the top level.
@@ -21,10 +21,17 @@ pub enum TopBox {
     Other,
 }
 
+/// A movie, and what its boxes say of protection.
+#[derive(Drop)]
+pub struct KnownMovie {
+    pub movie: Movie,
+    pub protection: MovieProtection,
+}
+
 /// What is read of one box at the top level.
 #[derive(Drop)]
 pub enum TopPart {
-    Movie(Movie),
+    Movie(KnownMovie),
     Fragment(Fragment),
     Other,
 }
@@ -32,7 +39,7 @@ pub enum TopPart {
 /// What a box has to know of those before it.
 #[derive(Drop)]
 pub struct Seen {
-    pub movie: Option<Movie>,
+    pub movie: Option<KnownMovie>,
     /// What the limits leave.
     pub room: Room,
 }
@@ -51,21 +58,22 @@ fn top_box(kind: [u8; 4]) -> TopBox
 }
 
 #[tactic(auto, unfolding(crate::specs::Mp4::movie_at))]
-fn read_movie(alloc: Global, file: &[u8], at: &BoxRef<'_>) -> Result<Movie, MediaFault>
+fn read_movie(alloc: Global, file: &[u8], at: &BoxRef<'_>) -> Result<KnownMovie, MediaFault>
     requires { at.now.body_place + length at.now.body.now < 2 ^ 64 }
     ensures value { GivesMedia result (movie_at file.now (found at.now)) }
-    ensures tracks { IfOk result (λ m. HasTracks m) }
+    ensures tracks { IfOk result (λ m. HasTracks m.movie) }
+    ensures ids { IfOk result (λ m. HasIds m) }
 {
     let movie = read_moov(alloc, at)?;
-    check_movie(alloc, file, &movie)?;
-    Ok(movie)
+    let protection = read_protection(alloc, file, &movie)?;
+    Ok(KnownMovie { movie, protection })
 }
 
 #[tactic(auto, unfolding(crate::specs::Mp4::fragment_at))]
 fn read_fragment(
     alloc: Global,
     file: &[u8],
-    movie: &Movie,
+    movie: &KnownMovie,
     room: Room,
     at: &BoxRef<'_>,
 ) -> Result<Fragment, MediaFault>
@@ -74,7 +82,7 @@ fn read_fragment(
     ensures within { IfOk result (λ f. IsWithin room movie.now f) }
 {
     let moof = read_moof(alloc, at)?;
-    let fragment = resolve(alloc, file, movie, &moof, room)?;
+    let fragment = resolve_known(alloc, file, &movie.protection, &moof, room)?;
     Ok(fragment)
 }
 

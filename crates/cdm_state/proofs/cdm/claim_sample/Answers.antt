@@ -1,4 +1,4 @@
-use Rattle.std.proofs.Common.{◌≡◌, ◌∙◌, List, ap, sym, subst}
+use Rattle.std.proofs.Common.{◌≡◌, ◌∙◌, List, Some, None, ap, sym, subst}
 use Rattle.std.specs.Prelude.{filter}
 use Rattle.key_claims.specs.TracksState.{ClaimState, FedTrack, TracksState}
 use Rattle.key_claims.specs.Claims.{is_other}
@@ -6,6 +6,12 @@ use Rattle.key_claims.specs.Contract.{AreBelow, claimed}
 use Rattle.cdm_state.proofs.TrackLists.{no_track}
 use Rattle.cdm_state.proofs.Revoking.{taken_back}
 use Rattle.cdm_state.proofs.cdm.claim_sample.Goals as goal
+
+some_is_there : {A : Type 0} (x : A) → Some x ≡ None → ⊥
+some_is_there x e = cc
+
+pub kid_of-requires : goal.kid_of-requires
+kid_of-requires c = λ none. (let x = c.in_ok-claim.ensures.ok.holds no_track in some_is_there x.protect (sym x.protected ∙ none))
 
 pub returns-in-Err-clause-err : goal.returns-in-Err-clause-err
 returns-in-Err-clause-err c =

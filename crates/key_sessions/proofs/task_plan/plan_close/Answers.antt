@@ -7,7 +7,7 @@ use Rattle.key_sessions.proofs.task_plan.plan_close.Goals as goal
 
 pub returns-clause-plan : goal.returns-clause-plan
 returns-clause-plan c = λ m ss mo.
-    let s = session_of c.in-Some.session.now in
+    let s = session_of c.numbered-session.result.now in
     let l : c.in_ok-list.list ≡ statuses s.keys (held_status s.expiration c.args.moment) = search rules in
-    let at : session_at m.sessions c.args.number ≡ Some s = rw ss c.in-Some.ensures in
+    let at : session_at m.sessions c.args.number ≡ Some s = rw ss c.numbered-session.ensures in
     closed_as m s c.args.number c.args.promise c.args.moment c.in_ok-list.list c.in_ok-report_tasks.field-0.items c.push-3.new.self at mo l (search rules) (search rules)

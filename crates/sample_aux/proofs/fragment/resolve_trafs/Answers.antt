@@ -11,15 +11,15 @@ returns-in_err-part c =
     let here = drop_item c.args.trafs.now c.loop-traf.traf-index c.traf-item.result c.loop-traf-test.true c.traf-item.is in
     rw (p.1, p.2) (elim c.in_err-part.ensures [
       | inl m ↦ inl m
-      | inr e ↦ inr (broken_off c.args.file.now c.args.movie.now c.args.start c.loop-traf.laying c.traf-item.result (drop (c.loop-traf.traf-index + 1) c.args.trafs.now) c.loop-traf.parts.items c.in_err-part.field-0.0 _ e (rw here at c.loop-traf.invariant))
+      | inr e ↦ inr (broken_off c.args.file.now c.args.known.now c.args.start c.loop-traf.cursor c.traf-item.result (drop (c.loop-traf.traf-index + 1) c.args.trafs.now) c.loop-traf.parts.items c.in_err-part.field-0.0 _ e (rw here at c.loop-traf.invariant))
     ])
 
 pub loop-traf-preserved : goal.loop-traf-preserved
 loop-traf-preserved c =
     let here = drop_item c.args.trafs.now c.loop-traf.traf-index c.traf-item.result c.loop-traf-test.true c.traf-item.is in
-    rw c.in_ok-joined.ensures (one_more c.args.file.now c.args.movie.now c.args.start c.loop-traf.laying c.traf-item.result (drop (c.loop-traf.traf-index + 1) c.args.trafs.now) c.loop-traf.parts.items c.in_ok-part.part c.in_ok-part.next _ c.in_ok-part.ensures (rw here at c.loop-traf.invariant))
+    rw c.in_ok-joined.ensures (one_more c.args.file.now c.args.known.now c.args.start c.loop-traf.cursor c.traf-item.result (drop (c.loop-traf.traf-index + 1) c.args.trafs.now) c.loop-traf.parts.items c.in_ok-part.part c.in_ok-part.next _ c.in_ok-part.ensures (rw here at c.loop-traf.invariant))
 
 pub returns : goal.returns
 returns c =
     let past = drop_all c.loop-traf.traf-index c.args.trafs.now c.loop-traf-test.false in
-    finished c.args.file.now c.args.movie.now c.args.start c.loop-traf.laying c.loop-traf.parts.items _ (rw past at c.loop-traf.invariant)
+    finished c.args.file.now c.args.known.now c.args.start c.loop-traf.cursor c.loop-traf.parts.items _ (rw past at c.loop-traf.invariant)

@@ -1,5 +1,5 @@
 use Rattle.std.proofs.Common.{◌≡◌, ◌<◌, ◌+◌, length, ap, sym, ◌∙◌, rules, arith}
-use Rattle.script_lang.specs.Lines.{lines_of}
+use Rattle.text_words.specs.Lines.{lines_of}
 use Rattle.script_lang.specs.Grammar.{created, moment_at_end}
 use Rattle.script_lang.proofs.Walk.{walk, script_walk, empty_refused}
 use Rattle.script_lang.proofs.Keeps.{is_script}

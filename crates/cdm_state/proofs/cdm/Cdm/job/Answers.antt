@@ -1,49 +1,40 @@
-use Rattle.std.proofs.Common.{◌≡◌, ◌≢◌, ◌≤◌, ◌+◌, ◌∙◌, ℕ, [], List, map, refl, length, false, sym, subst, arith, rules}
-use Rattle.std.specs.Prelude.{filter}
+use Rattle.std.proofs.Common.{◌≡◌, ◌≢◌, refl, length, subst, arith, rules, []}
 use Rattle.eme_types.specs.declared.entry.Entry.TheVariants.{Job}
-use Rattle.cdm_world.specs.Lost.{AreLost}
-use Rattle.key_sessions.specs.Keys.{held_key}
-use Rattle.key_sessions.specs.LostPair.{pair_of}
 use Rattle.key_sessions.specs.Jobs.{after_job}
+use Rattle.key_sessions.specs.SessionsState.{HasStepped}
 use Rattle.key_sessions.specs.World.{World}
-use Rattle.key_claims.specs.TrackValue.{all_left}
-use Rattle.key_claims.specs.Claims.{revoke_all}
-use Rattle.cdm_state.specs.Kept.{world_of}
-use Rattle.cdm_state.specs.Slots.{holds_still}
-use Rattle.cdm_state.proofs.Places.{room_stepped, kept_more}
-use Rattle.cdm_state.proofs.Revoking.{claims_left}
-use Rattle.cdm_state.proofs.Onward.{legal_job}
-use Rattle.cdm_state.proofs.May.{nothing_left}
+use Rattle.cdm_state.specs.Chronicle.{HasRoomFor}
+use Rattle.cdm_state.proofs.Stepped.{kept_stepped, same_room, job_quiet}
 use Rattle.cdm_state.proofs.ShownOn.{same_out}
-use Rattle.cdm_state.proofs.OutOn.{out_plain, fewer_filter}
+use Rattle.cdm_state.proofs.May.{nothing_left}
+use Rattle.std.proofs.Common.{false}
 use Rattle.cdm_state.proofs.cdm.Cdm.job.Goals as goal
 
 pub invariant_of-self-2 : goal.invariant_of-self-2
 invariant_of-self-2 c =
-    let s = c.self.inside in
-    let some : s.sessions.machine.jobs ≢ [] = search rules in
-    let ts = s.tracks.tracks in
-    let claims = s.tracks.claims in
-    let new = revoke_all (map pair_of c.lost.result.now) claims in
-    let n = c.job.new.self.machine in
-    let ok = c.in_ok-job.ensures.ok in
-    let did : c.take_effects-did.result ≡ (after_job s.sessions.machine).effects = c.take_effects-did.ensures.effects ∙ ok.effects in
-    let l : c.len-waits.result ≡ length s.places.items = search rules in
-    let h : c.len-waits.result + length ts + all_left ts + 1 ≤ c.reserve.new.history.1 = search rules in
-    let e : c.len-waits.result + length ts + all_left ts + 1 ≤ c.reserve.new.effects.1 = search rules in
-    let less : new ≡ filter (holds_still n) claims = claims_left s.ids s.history.0 s.effects.0 s.sessions.machine n ((after_job s.sessions.machine)) ts claims new (map pair_of c.lost.result.now) c.self.invariant.2 ok.machine (subst (λ (ls : List (ℕ × List ℕ)). AreLost (held_key s.sessions.machine) (held_key ((after_job s.sessions.machine)).machine) ls) (sym c.lost.ensures) ok.lost) refl in
-    let is = rw c.reserve.ensures.history at c.append.ensures.history in
-    rw (c.take_effects-did.ensures.rest, c.revoke_lost.ensures) (
-      room_stepped ts (length s.places.items) _ _ _ c.reserve.new.history.1 c.reserve.new.effects.1 (omega (arith, l, h)) (omega (arith, l, e)) c.append.ensures.history_room c.append.ensures.effects_room (omega (arith, ok.room, c.self.invariant.0.events)),
-      kept_more s.history.0 c.append.new.history.0 (Job) ts ts s.places.items is (λ w t i n k x. cc) refl (omega arith) c.self.invariant.1,
-      legal_job s.ids s.history.0 c.append.new.history.0 s.effects.0 c.append.new.effects.0 c.take_effects-did.result s.sessions.machine n ts claims new c.self.invariant.2 some is ok.machine did (rw c.reserve.ensures.effects at c.append.ensures.effects) less,
-      c.self.invariant.3,
-      out_plain s.ids s.history.0 c.append.new.history.0 (Job) s.effects.0 (world_of s.sessions.machine ts) ts ts claims new c.self.invariant.2 c.self.invariant.4 is (λ t. refl) (same_out ts) (fewer_filter _ claims new less),
-    )
+    let p = c.self.inside.parts in
+    let some : p.sessions.machine.jobs ≢ [] = search rules in
+    let reserved : HasRoomFor c.reserve.new.self.chronicle (length p.undelivered.items) p.tracks.tracks 1 = c.in_ok-reserve.ensures.ok in
+    let stepped : HasStepped p.sessions c.job.new.self (after_job p.sessions.machine) = rw c.reserve.ensures.rest at c.in_ok-job.ensures.ok in
+    rw (c.record_step.ensures.rest, c.reserve.ensures.rest) (kept_stepped c.self.inside.ids p Job (after_job p.sessions.machine) c.job.new.self p.tracks.tracks c.reserve.new.self.chronicle c.record_step.new.self.chronicle c.self.invariant (record {
+      before = p.sessions;
+      same = refl;
+      allowed = (subst (λ (w : World). w.machine.jobs ≢ []) c.self.invariant.2.state some);
+      quiet = job_quiet;
+      does = refl;
+      stepped = stepped;
+      events = omega (arith, stepped.room, c.self.invariant.0.events);
+      room = same_room p.tracks.tracks;
+      out = same_out p.tracks.tracks;
+      reserved = reserved;
+      taken = c.record_step.ensures.room;
+      entries = rw c.reserve.ensures.rest at c.record_step.ensures.entries;
+      effects = rw c.reserve.ensures.rest at c.record_step.ensures.effects;
+    }))
 
 pub returns-then-not-job_left-clause-empty : goal.returns-then-not-job_left-clause-empty
 returns-then-not-job_left-clause-empty c =
     let s = c.self.inside in
     let off : c.job_left.result ≡ false = search rules in
-    let none : s.sessions.machine.jobs ≡ [] = nothing_left s.sessions.machine.jobs c.job_left.result c.job_left.ensures off in
+    let none : s.parts.sessions.machine.jobs ≡ [] = nothing_left s.parts.sessions.machine.jobs c.job_left.result c.job_left.ensures off in
     rw (← c.self.view_is) ((λ e. subst (λ (w : World). w.machine.jobs ≡ []) c.self.invariant.2.state none), (λ e. refl))

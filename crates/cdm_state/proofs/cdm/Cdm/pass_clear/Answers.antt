@@ -1,4 +1,4 @@
-use Rattle.std.proofs.Common.{refl, get_or, length, arith}
+use Rattle.std.proofs.Common.{[], refl, get_or, length, arith}
 use Rattle.eme_types.specs.declared.entry.Entry.TheVariants.{PassClear}
 use Rattle.key_claims.specs.Changes.{changed_at, more_out}
 use Rattle.key_claims.proofs.Readiness.{head_fed}
@@ -14,40 +14,33 @@ use Rattle.cdm_state.proofs.cdm.Cdm.pass_clear.Goals as goal
 pub returns-in_err-next-clause-not_ready : goal.returns-in_err-next-clause-not_ready
 returns-in_err-next-clause-not_ready c =
     let s = c.self.inside in
-    on_err c.from_residual.result (rw (← c.self.view_is) (no_pass s.ids s.history.0 s.effects.0 s.sessions.machine s.tracks.tracks s.tracks.claims c.self.invariant.2 c.in_err-next.ensures.not_ready))
+    on_err c.from_residual.result (rw (← c.self.view_is) (no_pass s.ids s.parts.chronicle.entries s.parts.chronicle.effects s.parts.sessions.machine s.parts.tracks.tracks s.parts.tracks.claims c.self.invariant.2 c.in_err-next.ensures.not_ready))
 
-pub append-requires-clause-history : goal.append-requires-clause-history
-append-requires-clause-history c =
+pub append_unseen-requires : goal.append_unseen-requires
+append_unseen-requires c =
     let s = c.self.inside in
     let p = c.in_ok-next.ensures.ok in
-    let some = left_here s.tracks.tracks p.at no_track p.first.within (head_fed (get_or s.tracks.tracks p.at no_track) p.sample (p.head_ no_track)) in
-    omega (arith, some, c.self.invariant.0.history)
-
-pub append-requires-clause-effects : goal.append-requires-clause-effects
-append-requires-clause-effects c =
-    let s = c.self.inside in
-    let p = c.in_ok-next.ensures.ok in
-    let some = left_here s.tracks.tracks p.at no_track p.first.within (head_fed (get_or s.tracks.tracks p.at no_track) p.sample (p.head_ no_track)) in
-    omega (arith, some, c.self.invariant.0.effects)
+    let some = left_here s.parts.tracks.tracks p.at no_track p.first.within (head_fed (get_or s.parts.tracks.tracks p.at no_track) p.sample (p.head_ no_track)) in
+    omega (arith, some, c.self.invariant.0.entries)
 
 pub invariant_of-self-2 : goal.invariant_of-self-2
 invariant_of-self-2 c =
     let s = c.self.inside in
-    let ts = s.tracks.tracks in
-    let claims = s.tracks.claims in
+    let ts = s.parts.tracks.tracks in
+    let claims = s.parts.tracks.claims in
     let next = c.in_ok-next.next in
     let p = c.in_ok-next.ensures.ok in
     let g = gives_out ts p.at p.sample.bytes no_track p.first.within (head_fed (get_or ts p.at no_track) p.sample (p.head_ no_track)) in
     rw (p.tracks, p.claims) (
-      room_out ts (changed_at ts p.at (more_out p.sample.bytes)) (length s.places.items) _ _ _ _ _ g c.append.ensures.history_room c.append.ensures.effects_room c.self.invariant.0,
-      kept_more s.history.0 c.append.new.history.0 (PassClear next.track next.index) ts (changed_at ts p.at (more_out p.sample.bytes)) s.places.items c.append.ensures.history (λ w t i n k x. cc) refl (omega (arith, g.fed)) c.self.invariant.1,
-      pass_at s.ids s.history.0 c.append.new.history.0 s.effects.0 c.append.new.effects.0 c.new-did.result next.track next.index p.at p.sample.bytes s.sessions.machine ts claims no_track c.self.invariant.2 c.self.invariant.3 p.first (p.next.track_ no_track) (p.next.index_ no_track) c.append.ensures.history c.new-did.ensures c.append.ensures.effects,
+      room_out ts (changed_at ts p.at (more_out p.sample.bytes)) (length s.parts.undelivered.items) _ _ _ g c.append_unseen.ensures.room c.self.invariant.0,
+      kept_more s.parts.chronicle.entries c.append_unseen.new.self.entries (PassClear next.track next.index) ts (changed_at ts p.at (more_out p.sample.bytes)) s.parts.undelivered.items c.append_unseen.ensures.entries (λ w t i n k x. cc) refl (omega (arith, g.fed)) c.self.invariant.1,
+      pass_at s.ids s.parts.chronicle.entries c.append_unseen.new.self.entries s.parts.chronicle.effects c.append_unseen.new.self.effects [] next.track next.index p.at p.sample.bytes s.parts.sessions.machine ts claims no_track c.self.invariant.2 c.self.invariant.3 p.first (p.next.track_ no_track) (p.next.index_ no_track) c.append_unseen.ensures.entries refl c.append_unseen.ensures.effects,
       c.self.invariant.3,
-      out_pass s.ids s.history.0 c.append.new.history.0 s.effects.0 s.sessions.machine ts claims next.track next.index p.at p.sample c.self.invariant.2 c.self.invariant.3 c.self.invariant.4 p.first (p.next.track_ no_track) (p.next.index_ no_track) (p.head_ no_track) c.append.ensures.history,
+      out_pass s.ids s.parts.chronicle.entries c.append_unseen.new.self.entries s.parts.chronicle.effects s.parts.sessions.machine ts claims next.track next.index p.at p.sample c.self.invariant.2 c.self.invariant.3 c.self.invariant.4 p.first (p.next.track_ no_track) (p.next.index_ no_track) (p.head_ no_track) c.append_unseen.ensures.entries,
     )
 
 pub returns-clause-first : goal.returns-clause-first
 returns-clause-first c =
     let s = c.self.inside in
     let p = c.in_ok-next.ensures.ok in
-    rw (← c.self.view_is) (first_pass s.ids s.history.0 s.effects.0 s.sessions.machine s.tracks.tracks s.tracks.claims p.at c.in_ok-next.next.track no_track c.self.invariant.2 c.self.invariant.3 p.first (p.next.track_ no_track))
+    rw (← c.self.view_is) (first_pass s.ids s.parts.chronicle.entries s.parts.chronicle.effects s.parts.sessions.machine s.parts.tracks.tracks s.parts.tracks.claims p.at c.in_ok-next.next.track no_track c.self.invariant.2 c.self.invariant.3 p.first (p.next.track_ no_track))

@@ -1,4 +1,4 @@
-use Rattle.std.proofs.Common.{◌≡◌, ◌∙◌, ℕ, refl, get_or, length, ap, sym, subst, arith}
+use Rattle.std.proofs.Common.{[], ◌≡◌, ◌∙◌, ℕ, refl, get_or, length, ap, sym, subst, arith}
 use Rattle.std.specs.Prelude.{filter}
 use Rattle.eme_types.specs.declared.entry.Entry.TheVariants.{Publish}
 use Rattle.key_claims.specs.Changes.{changed_at, more_out}
@@ -17,32 +17,25 @@ use Rattle.cdm_state.proofs.cdm.Cdm.publish.Goals as goal
 pub returns-in-None-clause-not_ready : goal.returns-in-None-clause-not_ready
 returns-in-None-clause-not_ready c =
     let s = c.self.inside in
-    rw (← c.self.view_is) (no_publish s.ids s.history.0 s.effects.0 s.sessions.machine s.tracks.tracks s.tracks.claims c.self.invariant.2 c.in-None.ensures)
+    rw (← c.self.view_is) (no_publish s.ids s.parts.chronicle.entries s.parts.chronicle.effects s.parts.sessions.machine s.parts.tracks.tracks s.parts.tracks.claims c.self.invariant.2 c.in-None.ensures)
 
 pub returns-in_err-published-clause-not_ready : goal.returns-in_err-published-clause-not_ready
 returns-in_err-published-clause-not_ready c =
     let s = c.self.inside in
-    on_err c.from_residual.result (rw (← c.self.view_is) (no_publish s.ids s.history.0 s.effects.0 s.sessions.machine s.tracks.tracks s.tracks.claims c.self.invariant.2 c.in_err-published.ensures.not_ready))
+    on_err c.from_residual.result (rw (← c.self.view_is) (no_publish s.ids s.parts.chronicle.entries s.parts.chronicle.effects s.parts.sessions.machine s.parts.tracks.tracks s.parts.tracks.claims c.self.invariant.2 c.in_err-published.ensures.not_ready))
 
-pub append-requires-clause-history : goal.append-requires-clause-history
-append-requires-clause-history c =
+pub append_unseen-requires : goal.append_unseen-requires
+append_unseen-requires c =
     let s = c.self.inside in
     let p = c.in_ok-published.ensures.ok in
-    let some = left_here s.tracks.tracks p.at no_track p.first.within (ready_fed s.tracks.claims (get_or s.tracks.tracks p.at no_track) p.place (p.first.on no_track)) in
-    omega (arith, some, c.self.invariant.0.history)
-
-pub append-requires-clause-effects : goal.append-requires-clause-effects
-append-requires-clause-effects c =
-    let s = c.self.inside in
-    let p = c.in_ok-published.ensures.ok in
-    let some = left_here s.tracks.tracks p.at no_track p.first.within (ready_fed s.tracks.claims (get_or s.tracks.tracks p.at no_track) p.place (p.first.on no_track)) in
-    omega (arith, some, c.self.invariant.0.effects)
+    let some = left_here s.parts.tracks.tracks p.at no_track p.first.within (ready_fed s.parts.tracks.claims (get_or s.parts.tracks.tracks p.at no_track) p.place (p.first.on no_track)) in
+    omega (arith, some, c.self.invariant.0.entries)
 
 pub invariant_of-self-2 : goal.invariant_of-self-2
 invariant_of-self-2 c =
     let s = c.self.inside in
-    let ts = s.tracks.tracks in
-    let claims = s.tracks.claims in
+    let ts = s.parts.tracks.tracks in
+    let claims = s.parts.tracks.claims in
     let out = c.in_ok-published.published in
     let p = c.in_ok-published.ensures.ok in
     let r = c.in-Some.ensures in
@@ -53,18 +46,18 @@ invariant_of-self-2 c =
     let given = ap (λ (n : ℕ). clear_at n claims) (sym same) ∙ p.delivered in
     let g = gives_out ts p.at p.clear no_track p.first.within (ready_fed claims (get_or ts p.at no_track) p.place (p.first.on no_track)) in
     rw p.tracks (
-      room_out ts (changed_at ts p.at (more_out p.clear)) (length s.places.items) _ _ _ _ _ g c.append.ensures.history_room c.append.ensures.effects_room c.self.invariant.0,
-      kept_more s.history.0 c.append.new.history.0 (Publish out.track out.index place) ts (changed_at ts p.at (more_out p.clear)) s.places.items c.append.ensures.history (λ w t i n k x. cc) refl (omega (arith, g.fed)) c.self.invariant.1,
-      publish_at s.ids s.history.0 c.append.new.history.0 s.effects.0 c.append.new.effects.0 c.new-did.result out.track out.index p.at place p.clear s.sessions.machine ts claims c.publish.new.self.claims no_track c.self.invariant.2 c.self.invariant.3 ready (p.next.track_ no_track) (p.next.index_ no_track) c.append.ensures.history c.new-did.ensures c.append.ensures.effects gone,
+      room_out ts (changed_at ts p.at (more_out p.clear)) (length s.parts.undelivered.items) _ _ _ g c.append_unseen.ensures.room c.self.invariant.0,
+      kept_more s.parts.chronicle.entries c.append_unseen.new.self.entries (Publish out.track out.index place) ts (changed_at ts p.at (more_out p.clear)) s.parts.undelivered.items c.append_unseen.ensures.entries (λ w t i n k x. cc) refl (omega (arith, g.fed)) c.self.invariant.1,
+      publish_at s.ids s.parts.chronicle.entries c.append_unseen.new.self.entries s.parts.chronicle.effects c.append_unseen.new.self.effects [] out.track out.index p.at place p.clear s.parts.sessions.machine ts claims c.publish.new.self.claims no_track c.self.invariant.2 c.self.invariant.3 ready (p.next.track_ no_track) (p.next.index_ no_track) c.append_unseen.ensures.entries refl c.append_unseen.ensures.effects gone,
       c.self.invariant.3,
-      out_publish s.ids s.history.0 c.append.new.history.0 s.effects.0 s.sessions.machine ts claims c.publish.new.self.claims out.track out.index p.at place p.clear c.self.invariant.2 c.self.invariant.3 c.self.invariant.4 ready (p.next.track_ no_track) (p.next.index_ no_track) given c.append.ensures.history gone,
+      out_publish s.ids s.parts.chronicle.entries c.append_unseen.new.self.entries s.parts.chronicle.effects s.parts.sessions.machine ts claims c.publish.new.self.claims out.track out.index p.at place p.clear c.self.invariant.2 c.self.invariant.3 c.self.invariant.4 ready (p.next.track_ no_track) (p.next.index_ no_track) given c.append_unseen.ensures.entries gone,
     )
 
 pub returns-clause-ok : goal.returns-clause-ok
-returns-clause-ok c = (c.in-Some.ready.place, rw (← c.self.view_is, c.append.ensures.history) refl)
+returns-clause-ok c = (c.in-Some.ready.place, rw (← c.self.view_is, c.append_unseen.ensures.entries) refl)
 
 pub returns-clause-first : goal.returns-clause-first
 returns-clause-first c =
     let s = c.self.inside in
     let p = c.in_ok-published.ensures.ok in
-    rw (← c.self.view_is) (first_publish s.ids s.history.0 s.effects.0 s.sessions.machine s.tracks.tracks s.tracks.claims p.at p.place c.in_ok-published.published.track no_track c.self.invariant.2 c.self.invariant.3 p.first (p.next.track_ no_track))
+    rw (← c.self.view_is) (first_publish s.ids s.parts.chronicle.entries s.parts.chronicle.effects s.parts.sessions.machine s.parts.tracks.tracks s.parts.tracks.claims p.at p.place c.in_ok-published.published.track no_track c.self.invariant.2 c.self.invariant.3 p.first (p.next.track_ no_track))

@@ -1,39 +1,29 @@
-use Rattle.std.proofs.Common.{◌≡◌, ◌≤◌, ◌+◌, ◌∙◌, ℕ, List, map, refl, length, sym, subst, arith, rules}
-use Rattle.std.specs.Prelude.{filter}
+use Rattle.std.proofs.Common.{refl, length, arith}
 use Rattle.eme_types.specs.declared.entry.Entry.TheVariants.{Tick}
-use Rattle.cdm_world.specs.Lost.{AreLost}
-use Rattle.key_sessions.specs.Keys.{held_key}
-use Rattle.key_sessions.specs.LostPair.{pair_of}
 use Rattle.key_sessions.specs.Tasks.{after_tick}
-use Rattle.key_claims.specs.TrackValue.{all_left}
-use Rattle.key_claims.specs.Claims.{revoke_all}
-use Rattle.cdm_state.specs.Kept.{world_of}
-use Rattle.cdm_state.specs.Slots.{holds_still}
-use Rattle.cdm_state.proofs.Places.{room_stepped, kept_more}
-use Rattle.cdm_state.proofs.Revoking.{claims_left}
-use Rattle.cdm_state.proofs.Onward.{legal_tick}
+use Rattle.key_sessions.specs.SessionsState.{HasStepped}
+use Rattle.cdm_state.specs.Chronicle.{HasRoomFor}
+use Rattle.cdm_state.proofs.Stepped.{kept_stepped, same_room, tick_quiet}
 use Rattle.cdm_state.proofs.ShownOn.{same_out}
-use Rattle.cdm_state.proofs.OutOn.{out_plain, fewer_filter}
 use Rattle.cdm_state.proofs.cdm.Cdm.tick.Goals as goal
 
 pub invariant_of-self-2 : goal.invariant_of-self-2
 invariant_of-self-2 c =
-    let s = c.self.inside in
-    let ts = s.tracks.tracks in
-    let claims = s.tracks.claims in
-    let new = revoke_all (map pair_of c.lost.result.now) claims in
-    let n = c.tick.new.self.machine in
-    let ok = c.in_ok-tick.ensures.ok in
-    let did : c.take_effects-did.result ≡ (after_tick c.args.moment s.sessions.machine).effects = c.take_effects-did.ensures.effects ∙ ok.effects in
-    let l : c.len-waits.result ≡ length s.places.items = search rules in
-    let h : c.len-waits.result + length ts + all_left ts + 1 ≤ c.reserve.new.history.1 = c.in_ok-reserve.ensures.history_room in
-    let e : c.len-waits.result + length ts + all_left ts + 1 ≤ c.reserve.new.effects.1 = c.in_ok-reserve.ensures.effects_room in
-    let less : new ≡ filter (holds_still n) claims = claims_left s.ids s.history.0 s.effects.0 s.sessions.machine n ((after_tick c.args.moment s.sessions.machine)) ts claims new (map pair_of c.lost.result.now) c.self.invariant.2 ok.machine (subst (λ (ls : List (ℕ × List ℕ)). AreLost (held_key s.sessions.machine) (held_key ((after_tick c.args.moment s.sessions.machine)).machine) ls) (sym c.lost.ensures) ok.lost) refl in
-    let is = rw c.reserve.ensures.history at c.append.ensures.history in
-    rw (c.take_effects-did.ensures.rest, c.revoke_lost.ensures) (
-      room_stepped ts (length s.places.items) _ _ _ c.reserve.new.history.1 c.reserve.new.effects.1 (omega (arith, l, h)) (omega (arith, l, e)) c.append.ensures.history_room c.append.ensures.effects_room (omega (arith, ok.room, c.self.invariant.0.events)),
-      kept_more s.history.0 c.append.new.history.0 (Tick c.args.line c.args.moment) ts ts s.places.items is (λ w t i n k x. cc) refl (omega arith) c.self.invariant.1,
-      legal_tick s.ids s.history.0 c.append.new.history.0 s.effects.0 c.append.new.effects.0 c.take_effects-did.result c.args.line c.args.moment s.sessions.machine n ts claims new c.self.invariant.2 (rw (← c.self.view_is) at c.requires) is ok.machine did (rw c.reserve.ensures.effects at c.append.ensures.effects) less,
-      c.self.invariant.3,
-      out_plain s.ids s.history.0 c.append.new.history.0 (Tick c.args.line c.args.moment) s.effects.0 (world_of s.sessions.machine ts) ts ts claims new c.self.invariant.2 c.self.invariant.4 is (λ t. refl) (same_out ts) (fewer_filter _ claims new less),
-    )
+    let p = c.self.inside.parts in
+    let reserved : HasRoomFor c.reserve.new.self.chronicle (length p.undelivered.items) p.tracks.tracks 1 = c.in_ok-reserve.ensures.ok in
+    let stepped : HasStepped p.sessions c.tick.new.self (after_tick c.args.moment p.sessions.machine) = rw c.reserve.ensures.rest at c.in_ok-tick.ensures.ok in
+    rw (c.record_step.ensures.rest, c.reserve.ensures.rest) (kept_stepped c.self.inside.ids p (Tick c.args.line c.args.moment) (after_tick c.args.moment p.sessions.machine) c.tick.new.self p.tracks.tracks c.reserve.new.self.chronicle c.record_step.new.self.chronicle c.self.invariant (record {
+      before = p.sessions;
+      same = refl;
+      allowed = (rw (← c.self.view_is) at c.requires);
+      quiet = (tick_quiet c.args.line c.args.moment);
+      does = refl;
+      stepped = stepped;
+      events = omega (arith, stepped.room, c.self.invariant.0.events);
+      room = same_room p.tracks.tracks;
+      out = same_out p.tracks.tracks;
+      reserved = reserved;
+      taken = c.record_step.ensures.room;
+      entries = rw c.reserve.ensures.rest at c.record_step.ensures.entries;
+      effects = rw c.reserve.ensures.rest at c.record_step.ensures.effects;
+    }))

@@ -1,4 +1,5 @@
 use Rattle.std.proofs.Common.{◌≡◌, ◌∙◌, ◌++◌, ◌∷◌, [], List, Some, ap, sym, subst, refl}
+use Rattle.std.proofs.lemmas.Option.{slice_get-get_or}
 use Rattle.std.specs.Prelude.{slice_get}
 use Rattle.std.specs.List.{filter}
 use Rattle.key_claims.specs.declared.slots.Generation.{Generation}
@@ -7,7 +8,7 @@ use Rattle.key_claims.specs.TracksState.{ClaimState}
 use Rattle.key_claims.specs.SlotsKept.{SlotsKept}
 use Rattle.key_claims.specs.Slots.{KeyPlace, NoneOf, is_current, claims_in}
 use Rattle.key_claims.specs.Holds.{claim_of, IsPut}
-use Rattle.key_claims.proofs.Revokes.{key_at, get_there}
+use Rattle.key_claims.proofs.Revokes.{key_there}
 use Rattle.key_claims.proofs.Holds.{claims_held, claims_put, put_there, kept_slot, kept_put}
 use Rattle.key_claims.proofs.Deliveries.{claims_current, kept_filter, on_err}
 use Rattle.key_claims.proofs.claims.Claims.hold.Goals as goal
@@ -33,7 +34,7 @@ invariant_of-self-in-Some c =
     let left : c.reserve.new.self.items ≡ filter (is_current gs) ss = c.in_ok-reserve.ensures.items ∙ (rw c.deref.ensures.value at c.drop_ended.ensures) in
     let g = c.index.result.now in
     let known : KeyPlace gs c.args.session c.args.kid.now (Some c.in-Some.at) = rw (c.deref-2.ensures.value, c.bytes.ensures.value) at c.in-Some.ensures in
-    let there : slice_get gs c.in-Some.at ≡ Some g = get_there gs c.in-Some.at g known.0 ∙ ap Some (sym c.index.ensures) in
+    let there : slice_get gs c.in-Some.at ≡ Some g = slice_get-get_or gs c.in-Some.at g known.0 ∙ ap Some (sym c.index.ensures) in
     rw (c.push_reserved.ensures.items, left, c.slot_with.ensures) (kept_slot gs (filter (is_current gs) ss) c.args.claim c.in-Some.at g.number g there refl (kept_filter (is_current gs) gs ss c.self.invariant))
 
 pub returns-in-Some-clause-ok : goal.returns-in-Some-clause-ok
@@ -43,8 +44,8 @@ returns-in-Some-clause-ok c =
     let left : c.reserve.new.self.items ≡ filter (is_current gs) ss = c.in_ok-reserve.ensures.items ∙ (rw c.deref.ensures.value at c.drop_ended.ensures) in
     let g = c.index.result.now in
     let known : KeyPlace gs c.args.session c.args.kid.now (Some c.in-Some.at) = rw (c.deref-2.ensures.value, c.bytes.ensures.value) at c.in-Some.ensures in
-    let there : slice_get gs c.in-Some.at ≡ Some g = get_there gs c.in-Some.at g known.0 ∙ ap Some (sym c.index.ensures) in
-    rw (← c.self.view_is, c.push_reserved.ensures.items, left, c.slot_with.ensures) (claims_held gs (filter (is_current gs) ss) c.args.claim c.in-Some.at g.number c.args.session c.args.kid.now g there refl (key_at gs c.in-Some.at c.args.session c.args.kid.now g known there) ∙ ap (λ (cs : List ClaimState). cs ++ claim_of c.args.claim c.args.session c.args.kid.now ∷ []) (claims_current gs ss))
+    let there : slice_get gs c.in-Some.at ≡ Some g = slice_get-get_or gs c.in-Some.at g known.0 ∙ ap Some (sym c.index.ensures) in
+    rw (← c.self.view_is, c.push_reserved.ensures.items, left, c.slot_with.ensures) (claims_held gs (filter (is_current gs) ss) c.args.claim c.in-Some.at g.number c.args.session c.args.kid.now g there refl (key_there gs c.in-Some.at c.args.session c.args.kid.now g known there) ∙ ap (λ (cs : List ClaimState). cs ++ claim_of c.args.claim c.args.session c.args.kid.now ∷ []) (claims_current gs ss))
 
 pub invariant_of-self-in_err-copy-in-None : goal.invariant_of-self-in_err-copy-in-None
 invariant_of-self-in_err-copy-in-None c =

@@ -1,0 +1,2 @@
+pub mod ItemsAt
+pub mod Members
