@@ -1,6 +1,6 @@
 -- Laws of the field.
-use Rattle.std.proofs.Common.{◌≡◌, ℕ, ◌*◌, ◌+◌, ◌-◌, ◌%◌, ◌<◌, ◌≤◌, bit_xor, bit_and, refl, arith, subst, zero, suc}
-use Rattle.std.specs.Int.Bits.{xor_zero_r, xor_zero_l}
+use Rattle.std.proofs.Common.{◌≡◌, ℕ, ◌*◌, ◌+◌, ◌-◌, ◌%◌, ◌<◌, ◌≤◌, bit_xor, bit_and, refl, arith, subst}
+use Rattle.std.specs.Int.Bits.{xor_zero_r}
 use Rattle.std.proofs.Math.Nat.{zero-mul, one-mul}
 use Rattle.aes128.proofs.Below.{all_below, same_below}
 use Rattle.aes128.specs.Field.{times_x, product, times}
@@ -14,11 +14,6 @@ pub times_x_high : (x : ℕ) → 128 ≤ x → x < 256 → bit_xor (bit_and x 12
 times_x_high x high lt =
     let e : 128 + (x - 128) ≡ x = omega arith in
     subst (λ y. bit_xor (bit_and y 127 * 2 % 256) 27 ≡ times_x y) e (shifted_high (x - 128) (omega arith))
-
-pub product_0 : (n b : ℕ) → product n 0 b ≡ 0
-unfolding product
-product_0 zero b = refl
-product_0 (suc n) b = simp (zero-mul, xor_zero_l) (product_0 n (times_x b))
 
 pub times_1 : (b : ℕ) → times 1 b ≡ b
 unfolding product times

@@ -114,7 +114,7 @@ pub resubbed : (s : List ℕ) → AreBytes s → shift_rows (sub_bytes (inv_sub_
 unfolding inv_sub_bytes inv_shift_rows shift_rows sub_bytes
 resubbed s fits = same_state (λ r c. sub_byte (inv_sub_byte (at s r c))) (λ r c. at s r c) (λ r c. inv_sub_back (at s r c) (fits.each (r + 4 * c)))
 
-xor_twice : (x k : ℕ) → bit_xor (bit_xor x k) k ≡ x
+pub xor_twice : (x k : ℕ) → bit_xor (bit_xor x k) k ≡ x
 xor_twice x k = xor_assoc x k k ∙ ap (λ n. bit_xor x n) (xor_self k) ∙ xor_zero_r x
 
 pub unkeyed : (s k : List ℕ) → add_round_key (add_round_key s k) k ≡ state_of (λ r c. at s r c)

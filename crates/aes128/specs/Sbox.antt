@@ -12,6 +12,7 @@ inverse a = unwrap_or (find (λ b. times a b == 1) (range_with_len 0 256)) 0
 abbrev pub affine_bit : ℕ → ℕ → ℕ
 affine_bit b i = (bit_at b i + bit_at b ((i + 4) % 8) + bit_at b ((i + 5) % 8) + bit_at b ((i + 6) % 8) + bit_at b ((i + 7) % 8) + bit_at 0x63 i) % 2
 
+-- the affine transformation (5.1.1)
 abbrev pub affine : ℕ → ℕ
 affine b = affine_bit b 0 + 2 * affine_bit b 1 + 4 * affine_bit b 2 + 8 * affine_bit b 3 + 16 * affine_bit b 4 + 32 * affine_bit b 5 + 64 * affine_bit b 6 + 128 * affine_bit b 7
 
@@ -23,6 +24,7 @@ sub_byte a = affine (inverse a)
 abbrev pub inv_affine_bit : ℕ → ℕ → ℕ
 inv_affine_bit b i = (bit_at b ((i + 2) % 8) + bit_at b ((i + 5) % 8) + bit_at b ((i + 7) % 8) + bit_at 0x05 i) % 2
 
+-- the inverse of the affine transformation (5.3.2)
 abbrev pub inv_affine : ℕ → ℕ
 inv_affine b = inv_affine_bit b 0 + 2 * inv_affine_bit b 1 + 4 * inv_affine_bit b 2 + 8 * inv_affine_bit b 3 + 16 * inv_affine_bit b 4 + 32 * inv_affine_bit b 5 + 64 * inv_affine_bit b 6 + 128 * inv_affine_bit b 7
 

@@ -1,4 +1,3 @@
 pub mod JsonLemmas
 pub mod KeySetLemmas
-pub mod ListLemmas
 pub mod RequestLemmas

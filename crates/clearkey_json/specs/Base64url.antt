@@ -1,6 +1,7 @@
 -- Bytes as base64url texts without padding (RFC 4648 section 5; Encrypted Media Extensions section 9.1.6).
 use Rattle.std.specs.Prelude.{ℕ, List, length, ◌&&◌, nat_le, Option, Some, None, option_and_then, if◌then◌else◌}
 use Rattle.base64.specs.Engines.{url_safe_no_pad}
+use Rattle.eme_types.specs.declared.limits.TheConstants.{MAX_KID_BYTES}
 use Rattle.base64.specs.GeneralPurpose.{encode_of, decoded_of}
 
 -- the text of the bytes
@@ -17,7 +18,7 @@ of_len least most bytes = if nat_le least (length bytes) && nat_le (length bytes
 
 -- a key id is 1 to 512 bytes
 unfoldable pub kid_of : List ℕ → Option (List ℕ)
-kid_of text = option_and_then (of_len 1 512) (bytes_of text)
+kid_of text = option_and_then (of_len 1 MAX_KID_BYTES) (bytes_of text)
 
 -- a key of AES-128 is 16 bytes (FIPS 197 section 3.1)
 unfoldable pub key_of : List ℕ → Option (List ℕ)

@@ -3,6 +3,7 @@ use Rattle.std.specs.Prelude.{ℕ, List, [], ◌∷◌, ◌++◌, codes}
 use Rattle.std.specs.List.{flat_map}
 use Rattle.clearkey_json.specs.Base64url.{base64url}
 
+-- the text of an id behind another
 abbrev pub further : List ℕ → List ℕ
 further kid = codes "\",\"" ++ base64url kid
 
@@ -11,5 +12,6 @@ abbrev pub joined : List (List ℕ) → List ℕ
 joined [] = []
 joined (kid ∷ kids) = base64url kid ++ flat_map further kids
 
+-- the request for keys of these ids
 unfoldable pub request_text : List (List ℕ) → List ℕ
 request_text kids = codes "{\"kids\":[\"" ++ joined kids ++ codes "\"],\"type\":\"temporary\"}"

@@ -4,11 +4,11 @@ ghost use Rattle.clearkey_json.specs.declared.key_set.KeySetFault.TheVariants.{O
 ghost use Rattle.std.specs.List.{list_all};
 ghost use Rattle.serde_json.specs.View.{view};
 ghost use Rattle.serde_json.specs.Find.{get};
-ghost use Rattle.clearkey_json.specs.Json.{Gives};
+ghost use Rattle.eme_types.specs.FirstFault.{Gives};
 ghost use Rattle.clearkey_json.specs.KeySet.{is_web_key, web_keys, pair_of, pairs_of, is_temporary, expiration_of, key_set};
 
 use crate::text::{json_of, key_of, kid_of, text_at};
-use eme_types::{KeyBytes, KeyId, KeyPairs};
+use eme_types::{KeyBytes, KeyId, KeyPairs, MAX_KEY_SET_BYTES, MAX_MOMENT};
 use serde_json::Value;
 use std::alloc::{AllocError, Global};
 
@@ -64,14 +64,9 @@ fn is_web_key(object: &Value) -> bool
 }
 
 fn are_web_keys(objects: &[Value]) -> bool
-    ensures { result ≡ list_all is_web_key (map view objects.now) }
+    ensures { result ≡ list_all (λ object. is_web_key (view object)) objects.now }
 {
-    for object in objects {
-        if !is_web_key(object) {
-            return false;
-        }
-    }
-    true
+    objects.iter().all(|object| is_web_key(object))
 }
 
 // The member keys of a key set (RFC 7517 section 5.1).
@@ -90,7 +85,7 @@ fn web_keys(set: &Value) -> Option<&[Value]>
 // A key id and its key (RFC 7517 section 4).
 #[tactic(auto, unfolding(crate::specs::KeySet::pair_of))]
 fn pair_of(alloc: Global, object: &Value) -> Result<(KeyId, KeyBytes), KeySetFault>
-    ensures { Gives OutOfMemory (λ pair. pair) result (pair_of (view object.now)) }
+    ensures { Gives (λ e. e ≡ OutOfMemory) (λ pair. pair) result (pair_of (view object.now)) }
 {
     let Some(kty) = text_at(object, "kty") else {
         return Err(KeySetFault::Shape);
@@ -114,7 +109,7 @@ fn pair_of(alloc: Global, object: &Value) -> Result<(KeyId, KeyBytes), KeySetFau
 }
 
 fn pairs_of(alloc: Global, objects: &[Value]) -> Result<KeyPairs, KeySetFault>
-    ensures { Gives OutOfMemory (λ pairs. pairs) result (pairs_of (map view objects.now)) }
+    ensures { Gives (λ e. e ≡ OutOfMemory) (λ pairs. pairs) result (pairs_of (map view objects.now)) }
 {
     if objects.is_empty() {
         return Err(KeySetFault::NoKeys);
@@ -144,7 +139,7 @@ fn expiration_of(set: &Value) -> Result<Option<u64>, KeySetFault>
         return Ok(None);
     };
     match member.as_u64() {
-        Some(moment) if moment <= 1 << 53 => Ok(Some(moment)),
+        Some(moment) if moment <= MAX_MOMENT => Ok(Some(moment)),
         _ => Err(KeySetFault::Expires),
     }
 }
@@ -156,7 +151,7 @@ pub fn read_key_set(alloc: Global, bytes: &[u8]) -> Result<KeySet, KeySetFault>
     ensures ok { IfOk result (λ set. key_set bytes.now ≡ Ok set) }
     ensures refused { IfErr result (λ fault. fault ≢ OutOfMemory → key_set bytes.now ≡ Err fault) }
 {
-    if bytes.len() > 65_536 {
+    if bytes.len() > MAX_KEY_SET_BYTES {
         return Err(KeySetFault::TooLong);
     }
     let Some(set) = json_of(alloc, bytes)? else {

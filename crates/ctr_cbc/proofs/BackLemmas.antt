@@ -1,13 +1,13 @@
 -- Opening takes sealing back.
-use Rattle.std.proofs.Common.{◌≡◌, ℕ, zero, suc, ◌+◌, ◌*◌, ◌<◌, ◌≤◌, List, length, get_or, drop, bit_xor, sym, ap, ◌∙◌, arith, inl, inr, length-take, length-drop}
+use Rattle.std.proofs.Common.{◌≡◌, ℕ, zero, suc, ◌+◌, ◌*◌, ◌<◌, ◌≤◌, List, length, get_or, drop, sym, ap, ◌∙◌, arith, inl, inr, length-take, length-drop}
 use Rattle.std.proofs.lemmas.Bool.{cases_lt}
 use Rattle.std.proofs.lemmas.List.{get_or_past}
 use Rattle.std.proofs.lemmas.Grind.{same_number_lists}
 use Rattle.std.proofs.lemmas.Nat.{xor_lt}
-use Rattle.std.specs.Int.Bits.{xor_assoc, xor_self, xor_zero_r}
 use Rattle.aes128.specs.Bytes.{AreBytes}
 use Rattle.aes128.specs.Cipher.{cipher}
 use Rattle.aes128.specs.InverseCipher.{inv_cipher}
+use Rattle.aes128.proofs.Steps.{xor_twice}
 use Rattle.ctr_cbc.specs.Blocks.{block, exclusive_or}
 use Rattle.ctr_cbc.specs.Chain.{block_before, opened_block, sealed_block}
 use Rattle.ctr_cbc.proofs.BlockLemmas.{byte_of_block, byte_of_xor, length_of_xor}
@@ -30,9 +30,6 @@ block_bytes xs r fits = sixteen_bytes (block xs r) (omega (arith, length-take 16
 before_bytes : (iv xs : List ℕ) (r : ℕ) → AreBytes iv → AreBytes xs → AreBytes (block_before iv xs r)
 before_bytes iv xs zero fi fx = fi
 before_bytes iv xs (suc r) fi fx = block_bytes xs r fx
-
-xor_twice : (x k : ℕ) → bit_xor (bit_xor x k) k ≡ x
-xor_twice x k = xor_assoc x k k ∙ ap (λ n. bit_xor x n) (xor_self k) ∙ xor_zero_r x
 
 xor_back : (a b : List ℕ) → length a ≡ 16 → exclusive_or (exclusive_or a b) b ≡ a
 xor_back a b len =

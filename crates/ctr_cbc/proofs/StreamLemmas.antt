@@ -31,7 +31,7 @@ stream_of_short key iv n len = rw (counter_of_short iv (n / 16) len) refl
 pub before : (a n : ℕ) (xs ys : List ℕ) (k : ℕ) → a ≤ length xs → k < a → get_or (put_mid a n xs ys) k 0 ≡ get_or xs k 0
 before a n xs ys k le lt = search (rules, places)
 
-inside : (a n : ℕ) (xs ys : List ℕ) (k j : ℕ) → a ≤ length xs → length ys ≡ n → j < n → k ≡ a + j → get_or (put_mid a n xs ys) k 0 ≡ get_or ys j 0
+pub inside : (a n : ℕ) (xs ys : List ℕ) (k j : ℕ) → a ≤ length xs → length ys ≡ n → j < n → k ≡ a + j → get_or (put_mid a n xs ys) k 0 ≡ get_or ys j 0
 inside a n xs ys k j le len lt e = rw e (search (rules, places))
 
 pub after : (a n : ℕ) (xs ys : List ℕ) (k : ℕ) → a ≤ length xs → length ys ≡ n → a + n ≤ k → get_or (put_mid a n xs ys) k 0 ≡ get_or xs k 0

@@ -89,26 +89,28 @@ behind_stands o n b w i h =
 
 -- ---- what is read of boxes
 
--- R holds for what is read of each box in o
-abbrev Each : {E A K : Type 0} → Found → (A → Type 0) → (K → Found → Result A E) → Type 0
-Each {A = A} {K = K} o R read = (known : K) (b : Found) (x : A) → Stands o b → read known b ≡ Ok x → R x
+-- a reader of boxes: R holds for what it reads of each box in o
+record Lying (E A K : Type 0) (o : Found) (R : A → Type 0) : Type 0 where
+  pub read : K → Found → Result A E
+  pub learn : K → A → K
+  pub each : (known : K) (b : Found) (x : A) → Stands o b → read known b ≡ Ok x → R x
 
-each_lies : {E A K : Type 0} (o : Found) (R : A → Type 0) (read : K → Found → Result A E) (learn : K → A → K) → Each o R read → (known : K) (bs : List Found) (xs : List A) → All (Stands o) bs → each_knowing read learn known bs ≡ Ok xs → All R xs
+each_lies : {E A K : Type 0} (o : Found) (R : A → Type 0) (r : Lying E A K o R) (known : K) (bs : List Found) (xs : List A) → All (Stands o) bs → each_knowing r.read r.learn known bs ≡ Ok xs → All R xs
 unfolding each_knowing
-each_lies o R read learn each known [] xs all h = carried (All R) [] xs (All-nil R) cc
-each_lies o R read learn each known (b ∷ bs) xs all h =
-    let p = then_ok (read known b) _ xs h in
-    let q = then_ok (each_knowing read learn (learn known p.0) bs) _ xs p.2 in
-    let one = each known b p.0 (All-head (Stands o) b bs all) p.1 in
-    let more = each_lies o R read learn each (learn known p.0) bs q.0 (All-tail (Stands o) b bs all) q.1 in
+each_lies o R r known [] xs all h = carried (All R) [] xs (All-nil R) cc
+each_lies o R r known (b ∷ bs) xs all h =
+    let p = then_ok (r.read known b) _ xs h in
+    let q = then_ok (each_knowing r.read r.learn (r.learn known p.0) bs) _ xs p.2 in
+    let one = r.each known b p.0 (All-head (Stands o) b bs all) p.1 in
+    let more = each_lies o R r (r.learn known p.0) bs q.0 (All-tail (Stands o) b bs all) q.1 in
     carried (All R) (p.0 ∷ q.0) xs (All-cons R p.0 q.0 one more) cc
 
-all_lie : {E A K : Type 0} (header : BoxFault → E) (o : Found) (R : A → Type 0) (read : K → Found → Result A E) (learn : K → A → K) → Each o R read → (known : K) (w : Walked) (xs : List A) → All (Stands o) w.boxes → all_knowing header read learn known w ≡ Ok xs → All R xs
+all_lie : {E A K : Type 0} (header : BoxFault → E) (o : Found) (R : A → Type 0) (r : Lying E A K o R) (known : K) (w : Walked) (xs : List A) → All (Stands o) w.boxes → all_knowing header r.read r.learn known w ≡ Ok xs → All R xs
 unfolding all_knowing
-all_lie header o R read learn each known w xs all h =
-    let p = then_ok (each_knowing read learn known w.boxes) _ xs h in
+all_lie header o R r known w xs all h =
+    let p = then_ok (each_knowing r.read r.learn known w.boxes) _ xs h in
     let q = then_ok (ended header w.fault) _ xs p.2 in
-    carried (All R) p.0 xs (each_lies o R read learn each known w.boxes p.0 all p.1) cc
+    carried (All R) p.0 xs (each_lies o R r known w.boxes p.0 all p.1) cc
 
 found_at : {E A : Type 0} (o : Found) (R : A → Type 0) (test : Found → Bool) (read : Found → Result A E) → ((b : Found) (x : A) → Stands o b → read b ≡ Ok x → R x)
     → (c : Bool) (b : Found) (bs : List Found) (x : Option A) → Stands o b → (if_any read (find test bs) ≡ Ok x → IfSome x R) → if_any read (cond c (Some b) (find test bs)) ≡ Ok x → IfSome x R
@@ -152,7 +154,7 @@ somes_lie o (Some x ∷ ps) all = All-cons (SpanLies o) x (somes ps) (All-head (
 sinfs_lie : (o : Found) (place : ℕ) (w : Walked) (e : SampleEntry) → All (Stands o) w.boxes → sinfs_at place w ≡ Ok e → EntryLies o e
 sinfs_lie o place w e all h =
     let p = then_ok (all_read header_fault (λ b. Ok (sinf_part b)) w) _ e h in
-    let parts = all_lie header_fault o (SinfLies o) (λ (none : Unit {0}) b. Ok (sinf_part b)) (λ none x. tt) (λ none b x s eq. carried (SinfLies o) (sinf_part b) x (sinf_lies o b s) cc) tt w p.0 all p.1 in
+    let parts = all_lie header_fault o (SinfLies o) (record { read = λ (none : Unit {0}) b. Ok (sinf_part b); learn = λ none x. tt; each = λ none b x s eq. carried (SinfLies o) (sinf_part b) x (sinf_lies o b s) cc }) tt w p.0 all p.1 in
     let q = not_err (length (somes p.0) == 0) (fault_at place NoSinf) (Ok (record { place = place; sinfs = somes p.0 })) e p.2 in
     carried (EntryLies o) (record { place = place; sinfs = somes p.0 }) e (somes_lie o p.0 parts) cc
 
@@ -173,7 +175,7 @@ unfolding entries_in
 entries_lie o place count w es all h =
     let p = then_ok (each_knowing (λ (none : Unit {0}) b. entry_at b) (λ none x. tt) tt (take count w.boxes)) _ es h in
     let q = then_ok (enough place count w) _ es p.2 in
-    let each = each_lies o (EntryLies o) (λ (none : Unit {0}) b. entry_at b) (λ none x. tt) (λ none b e s eq. entry_lies o (entry_box b.kind) b e (body_in o b s) eq) tt (take count w.boxes) p.0 (All-take (Stands o) count w.boxes all) p.1 in
+    let each = each_lies o (EntryLies o) (record { read = λ (none : Unit {0}) b. entry_at b; learn = λ none x. tt; each = λ none b e s eq. entry_lies o (entry_box b.kind) b e (body_in o b s) eq }) tt (take count w.boxes) p.0 (All-take (Stands o) count w.boxes all) p.1 in
     carried (All (EntryLies o)) p.0 es each cc
 
 stsd_lies : (o b : Found) (es : List SampleEntry) → In o b → stsd_at b ≡ Ok es → All (EntryLies o) es
@@ -225,7 +227,7 @@ stbl_lies : (o b : Found) (t : Table) → In o b → stbl_at b ≡ Ok t → Tabl
 unfolding stbl_at
 stbl_lies o b t i h =
     let p = then_ok _ _ t h in
-    let parts = all_lie header_fault o (StblLies o) stbl_part_at stsd_seen (λ seen b p s eq. stbl_part_lies o (stbl_box b.kind) seen b p s eq) false (inside b) p.0 (inside_stands o b i) p.1 in
+    let parts = all_lie header_fault o (StblLies o) (record { read = stbl_part_at; learn = stsd_seen; each = λ seen b p s eq. stbl_part_lies o (stbl_box b.kind) seen b p s eq }) false (inside b) p.0 (inside_stands o b i) p.1 in
     carried (TableLies o) (record { entries = or_nothing (first (entries_of p.0)); groups = groups p.0 }) t
     (record { entries = first_list o (entries_of p.0) (entries_of_lie o p.0 parts); groups = groups_lie o p.0 parts }) cc
 
@@ -286,7 +288,7 @@ unfolding trak_at
 trak_lies o tracks b t i h =
     let p = then_ok _ (track_from b.place) t h in
     let q = then_ok (required (fault_at b.place NoTrackId) (first (ids p.0))) _ t p.2 in
-    let parts = all_lie header_fault o (TrakLies o) (trak_part_at tracks) saw (λ seen b p s eq. trak_part_lies o (trak_box b.kind) tracks seen b p s eq) (record { tkhd = false; mdia = false }) (inside b) p.0 (inside_stands o b i) p.1 in
+    let parts = all_lie header_fault o (TrakLies o) (record { read = trak_part_at tracks; learn = saw; each = λ seen b p s eq. trak_part_lies o (trak_box b.kind) tracks seen b p s eq }) (record { tkhd = false; mdia = false }) (inside b) p.0 (inside_stands o b i) p.1 in
     let table = first_table o (tables p.0) (tables_lie o p.0 parts) in
     carried (TrackLies o) (track b.place q.0 (or_none (first (tables p.0)))) t (record { entries = table.entries; groups = table.groups }) cc
 
@@ -330,7 +332,7 @@ moov_lies : (b : Found) (m : Movie) → moov_at b ≡ Ok m → MovieLies b m
 unfolding moov_at
 moov_lies b m h =
     let p = then_ok _ _ m h in
-    let parts = all_lie header_fault b (MoovLies b) moov_part_at with_track (λ tracks c p s eq. moov_part_lies b (moov_box c.kind) tracks c p s eq) [] (inside b) p.0 (inside_stands b b (whole_in b)) p.1 in
+    let parts = all_lie header_fault b (MoovLies b) (record { read = moov_part_at; learn = with_track; each = λ tracks c p s eq. moov_part_lies b (moov_box c.kind) tracks c p s eq }) [] (inside b) p.0 (inside_stands b b (whole_in b)) p.1 in
     carried (MovieLies b) (record { place = b.place; tracks = map (with_trex (trexes_of p.0)) (tracks_of p.0); psshs = moov_psshs p.0 }) m
     (record { tracks = with_trex_lies b (trexes_of p.0) (tracks_of p.0) (tracks_lie b p.0 parts); psshs = moov_psshs_lie b p.0 parts }) cc
 
@@ -369,7 +371,7 @@ unfolding traf_at
 traf_lies o b t i h =
     let p = then_ok _ (traf_from b.place) t h in
     let q = then_ok (required (fault_at b.place NoTfhd) (first (heads p.0))) _ t p.2 in
-    let parts = all_lie header_fault o (PartLies o) part_at head_seen (λ seen b p s eq. part_lies o (traf_box b.kind) seen b p s eq) false (inside b) p.0 (inside_stands o b i) p.1 in
+    let parts = all_lie header_fault o (PartLies o) (record { read = part_at; learn = head_seen; each = λ seen b p s eq. part_lies o (traf_box b.kind) seen b p s eq }) false (inside b) p.0 (inside_stands o b i) p.1 in
     carried (TrafLies o) (record { place = b.place; tfhd = q.0; runs = runs p.0; senc = spans_of (codes "senc") p.0; saiz = spans_of (codes "saiz") p.0; saio = spans_of (codes "saio") p.0; sgpd = spans_of (codes "sgpd") p.0; sbgp = spans_of (codes "sbgp") p.0 }) t
     (record { senc = spans_lie o _ p.0 parts; saiz = spans_lie o _ p.0 parts; saio = spans_lie o _ p.0 parts; sgpd = spans_lie o _ p.0 parts; sbgp = spans_lie o _ p.0 parts }) cc
 
@@ -401,7 +403,7 @@ moof_lies : (b : Found) (m : Moof) → moof_at b ≡ Ok m → MoofLies b m
 unfolding moof_at
 moof_lies b m h =
     let p = then_ok _ _ m h in
-    let parts = all_lie header_fault b (MoofPartLies b) (λ (none : Unit {0}) c. moof_part_at c) (λ none x. tt) (λ none c p s eq. moof_part_lies b (moof_box c.kind) c p s eq) tt (inside b) p.0 (inside_stands b b (whole_in b)) p.1 in
+    let parts = all_lie header_fault b (MoofPartLies b) (record { read = λ (none : Unit {0}) c. moof_part_at c; learn = λ none x. tt; each = λ none c p s eq. moof_part_lies b (moof_box c.kind) c p s eq }) tt (inside b) p.0 (inside_stands b b (whole_in b)) p.1 in
     carried (MoofLies b) (record { place = b.place; trafs = trafs p.0; psshs = psshs p.0 }) m (record { trafs = trafs_lie b p.0 parts; psshs = psshs_lie b p.0 parts }) cc
 
 -- ---- the answers of the readers

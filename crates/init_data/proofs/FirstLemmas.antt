@@ -1,5 +1,5 @@
 -- Inserting each id in turn keeps the first occurrences.
-use Rattle.std.proofs.Common.{◌≡◌, ℕ, ◌+◌, ◌<◌, Bool, true, false, List, [], ◌∷◌, ◌++◌, length, get_or, take, cond, refl, sym, subst, ap, ◌∙◌, append_assoc}
+use Rattle.std.proofs.Common.{◌≡◌, ℕ, ◌+◌, ◌<◌, Bool, true, false, List, [], ◌∷◌, ◌++◌, length, get_or, take, cond, refl, sym, subst, ap, ◌∙◌, append_assoc, arith}
 use Rattle.std.specs.Prelude.{not, ◌&&◌, ◌||◌, filter, bytes_eq}
 use Rattle.std.specs.List.{list_any}
 use Rattle.std.proofs.lemmas.List.{append-nil, take_more}
@@ -85,3 +85,9 @@ inserted xs i x copied old new lt is same before now =
     let front : take (i + 1) xs ≡ take i xs ++ x ∷ [] = take_more xs i x lt ∙ ap (λ y. take i xs ++ y ∷ []) (sym is) in
     now ∙ ap (λ y. insert_key bytes_eq old y) same ∙ ap (λ ks. insert_key bytes_eq ks x) before
     ∙ sym (ap (insert_all bytes_eq []) front ∙ fold-append (insert_key bytes_eq) [] (take i xs) (x ∷ []))
+
+-- ids leave an id
+pub some_first : (kids : List (List ℕ)) → 0 < length kids → 0 < length (first_occurrences kids)
+unfolding first_occurrences
+some_first [] some = some
+some_first (kid ∷ kids) some = omega arith

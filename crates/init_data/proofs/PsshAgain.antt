@@ -6,7 +6,8 @@ use Rattle.std.proofs.lemmas.Bool.{le-ltb, lt-ltb, le-leb, eq-eqb, eqb-true}
 use Rattle.std.proofs.lemmas.List.{take_at, drop_at, length-append}
 use Rattle.std.proofs.lemmas.List.Elements.{All-head, All-tail}
 use Rattle.std.proofs.lemmas.Nat.{from_be_bytes-to_be_bytes_4}
-use Rattle.clearkey_json.specs.Json.{read_each}
+use Rattle.eme_types.specs.FirstFault.{read_each}
+use Rattle.eme_types.specs.declared.limits.TheConstants.{MAX_INIT_DATA_BYTES}
 use Rattle.iso_boxes.specs.declared.writing.PutFault.{PutFault}
 use Rattle.iso_boxes.specs.Reading.{number, number24, some_bytes, repeated}
 use Rattle.iso_boxes.specs.Walk.{Found, before, boxes_left, walk, walk_of}
@@ -157,7 +158,7 @@ unfolding pssh_list gathered read_each
 list_again p canonical =
     let size = boxed_length p in
     let some : ltb 0 (length (pssh_box p)) ≡ true = lt-ltb _ _ (omega (arith, size)) in
-    let short : nat_le (length (pssh_box p)) 65536 ≡ true = le-leb _ _ canonical.short in
+    let short : nat_le (length (pssh_box p)) MAX_INIT_DATA_BYTES ≡ true = le-leb _ _ canonical.short in
     rw (some, short, walked_again p canonical, in_again p 0 canonical) refl
 
 -- what a writer appended is read again

@@ -1,13 +1,13 @@
 -- Boxes and key ids read one after the other.
-use Rattle.std.proofs.Common.{◌≡◌, ℕ, List, [], ◌∷◌, ◌++◌, Option, Some, None, Result, Ok, Err, refl, sym, ap, ◌∙◌, append_assoc}
+use Rattle.std.proofs.Common.{◌≡◌, ◌⊎◌, inl, inr, ℕ, List, [], ◌∷◌, ◌++◌, Option, Some, None, Result, Ok, Err, refl, sym, ap, ◌∙◌, append_assoc}
 use Rattle.std.proofs.lemmas.List.{append-nil}
-use Rattle.clearkey_json.specs.Json.{◌>>=◌, read_each}
+use Rattle.eme_types.specs.FirstFault.{◌>>=◌, read_each}
 use Rattle.iso_boxes.specs.declared.walk.BoxFault.{BoxFault}
 use Rattle.iso_boxes.specs.Fields.{bytes_at}
 use Rattle.iso_boxes.specs.Reading.{some_bytes}
 use Rattle.iso_boxes.specs.Walk.{Found, Walked, before}
 use Rattle.init_data.specs.declared.fault.InitFault.{InitFault}
-use Rattle.init_data.specs.declared.fault.InitFault.TheVariants.{Invalid}
+use Rattle.init_data.specs.declared.fault.InitFault.TheVariants.{Invalid, OutOfMemory}
 use Rattle.init_data.specs.declared.pssh.Pssh.{Pssh}
 use Rattle.init_data.specs.Pssh.{pssh_in, ended, gathered}
 
@@ -45,9 +45,10 @@ pub goes_on : (front : List Pssh) (b : Found) (old new : Walked) (p : Pssh) (tot
     → total ≡ left_over front old → total ≡ left_over (front ++ p ∷ []) new
 goes_on front b old new p total is one so_far = so_far ∙ ap (left_over front) is ∙ one_more front b new p one
 
-pub stops : (front : List Pssh) (b : Found) (old new : Walked) (e : InitFault) (total : Result (List Pssh) InitFault) → old ≡ before b new → pssh_in b ≡ Err e
-    → total ≡ left_over front old → total ≡ Err e
-stops front b old new e total is one so_far = so_far ∙ ap (left_over front) is ∙ one_refused front b new e one
+pub stops : (front : List Pssh) (b : Found) (old new : Walked) (e : InitFault) (total : Result (List Pssh) InitFault) → old ≡ before b new → (e ≡ OutOfMemory) ⊎ (pssh_in b ≡ Err e)
+    → total ≡ left_over front old → (e ≡ OutOfMemory) ⊎ (total ≡ Err e)
+stops front b old new e total is (inl wants) so_far = inl wants
+stops front b old new e total is (inr one) so_far = inr (so_far ∙ ap (left_over front) is ∙ one_refused front b new e one)
 
 pub finishes : (front : List Pssh) (old : Walked) (total : Result (List Pssh) InitFault) → old ≡ record { boxes = []; fault = None }
     → total ≡ left_over front old → total ≡ Ok front

@@ -2,7 +2,8 @@
 use Rattle.std.specs.Prelude.{◌≡◌, ℕ, ◌+◌, ◌%◌, ◌^◌, ◌≤◌, ◌==◌, Bool, false, ◌&&◌, List, [], ◌∷◌, ◌++◌, length, drop, bytes_eq, nat_lt, nat_le, Option, Some, None, Result, Ok, Err, codes, if◌then◌else◌, flat_map}
 use Rattle.std.specs.List.{All}
 use Rattle.std.specs.Int.{w8, w32, to_be_bytes}
-use Rattle.clearkey_json.specs.Json.{◌>>=◌, read_each}
+use Rattle.eme_types.specs.FirstFault.{◌>>=◌, demanded, read_each}
+use Rattle.eme_types.specs.declared.limits.TheConstants.{MAX_INIT_DATA_BYTES}
 use Rattle.iso_boxes.specs.declared.walk.BoxFault.{BoxFault}
 use Rattle.iso_boxes.specs.Reading.{number, number24, some_bytes, repeated}
 use Rattle.iso_boxes.specs.Walk.{Found, Walked, before, walk}
@@ -11,11 +12,9 @@ use Rattle.init_data.specs.declared.fault.InitFault.{InitFault}
 use Rattle.init_data.specs.declared.fault.InitFault.TheVariants.{Invalid}
 use Rattle.init_data.specs.declared.pssh.Pssh.{Pssh}
 
-abbrev pub demanded : Bool → Result (Unit {0}) InitFault
-demanded holds = if holds then Ok tt else Err Invalid
-
 -- ---- reading
 
+-- so many key ids of 16 bytes, and what follows them
 abbrev pub some_kids : ℕ → List ℕ → Result (List (List ℕ) × List ℕ) InitFault
 some_kids count = repeated count (some_bytes Invalid 16)
 
@@ -33,9 +32,10 @@ kids_at version bytes = if version == 0 then Ok ([], bytes) else counted_kids by
 abbrev pub content_at : List ℕ → Result (List ℕ) InitFault
 content_at bytes = do
   size ← number Invalid w32 bytes
-  fits ← demanded (length size.1 == size.0)
+  fits ← demanded Invalid (length size.1 == size.0)
   Ok size.1
 
+-- the box of this body
 unfoldable pub pssh_of : List ℕ → Result Pssh InitFault
 pssh_of body = do
   version ← number Invalid w8 body
@@ -45,6 +45,7 @@ pssh_of body = do
   content ← content_at kids.1
   Ok (record { version = version.0; system = system.0; kids = kids.0; content = content })
 
+-- the box, where its type is `pssh`
 unfoldable pub pssh_in : Found → Result Pssh InitFault
 pssh_in at = if bytes_eq at.kind (codes "pssh") then pssh_of at.body else Err Invalid
 
@@ -63,7 +64,7 @@ gathered w = do
 -- one or more boxes in at most 65,536 bytes, read as boxes inside a box
 unfoldable pub pssh_list : List ℕ → Result (List Pssh) InitFault
 pssh_list bytes = do
-  fits ← demanded (nat_lt 0 (length bytes) && nat_le (length bytes) 65536)
+  fits ← demanded Invalid (nat_lt 0 (length bytes) && nat_le (length bytes) MAX_INIT_DATA_BYTES)
   gathered (walk bytes 0 false)
 
 -- ---- writing
@@ -72,6 +73,7 @@ pssh_list bytes = do
 abbrev pub listed_body : ℕ → List (List ℕ) → List ℕ
 listed_body version kids = if version == 0 then [] else to_be_bytes w32 (length kids % 2 ^ 32) ++ flat_map (λ kid. kid) kids
 
+-- the data behind its size
 abbrev pub content_body : List ℕ → List ℕ
 content_body content = to_be_bytes w32 (length content % 2 ^ 32) ++ content
 
@@ -79,6 +81,7 @@ content_body content = to_be_bytes w32 (length content % 2 ^ 32) ++ content
 unfoldable pub pssh_body : Pssh → List ℕ
 pssh_body p = p.version ∷ 0 ∷ 0 ∷ 0 ∷ (p.system ++ (listed_body p.version p.kids ++ content_body p.content))
 
+-- the whole box
 abbrev pub pssh_box : Pssh → List ℕ
 pssh_box p = boxed (codes "pssh") (pssh_body p)
 
@@ -91,7 +94,7 @@ pub record IsCanonical (p : Pssh) : Type 0 where
   pub system : length p.system ≡ 16
   pub kids : AreSixteen p.kids
   pub plain : p.version ≡ 0 → p.kids ≡ []
-  pub short : length (pssh_box p) ≤ 65536
+  pub short : length (pssh_box p) ≤ MAX_INIT_DATA_BYTES
 
 -- behind the old bytes stands one box, and it is read as this record, whatever follows it and wherever the bytes stand
 abbrev pub IsReadAgain : List ℕ → List ℕ → Pssh → Type 0

@@ -1,14 +1,14 @@
 // Key ids of initialization data.
-ghost use Rattle.std.specs.Prelude.{◌≡◌, ◌≢◌, map, flat_map, IfOk, IfErr, Ok, Err};
+ghost use Rattle.std.specs.Prelude.{◌≡◌, ◌≢◌, ◌<◌, length, map, flat_map, IfOk, IfErr, Ok, Err};
 ghost use Rattle.serde_json.specs.View.{view};
-ghost use Rattle.clearkey_json.specs.Json.{Gives, read_each};
+ghost use Rattle.eme_types.specs.FirstFault.{Gives, read_each};
 ghost use Rattle.init_data.specs.declared.fault.InitFault.TheVariants.{OutOfMemory};
 ghost use Rattle.init_data.specs.InitData.{kid_in, keyids_of, common_kids, cenc_of, first_occurrences, listed, kids_of};
 
 use crate::fault::InitFault;
 use crate::pssh::{Pssh, PsshList, read_pssh};
 use clearkey_json::{json_of, kid_of};
-use eme_types::{Copies, InitKind, KeyId, Kids};
+use eme_types::{Copies, InitKind, KeyId, Kids, MAX_INIT_DATA_BYTES};
 use indexmap::IndexSet;
 use serde_json::Value;
 use std::alloc::{AllocError, Global};
@@ -21,7 +21,7 @@ const COMMON_SYSTEM: [u8; 16] = [
 // A key id as a JSON text.
 #[tactic(auto, unfolding(crate::specs::InitData::kid_in))]
 fn kid_in(alloc: Global, value: &Value) -> Result<KeyId, InitFault>
-    ensures { Gives OutOfMemory (λ kid. kid) result (kid_in (view value.now)) }
+    ensures { Gives (λ e. e ≡ OutOfMemory) (λ kid. kid) result (kid_in (view value.now)) }
 {
     let Some(text) = value.as_str() else {
         return Err(InitFault::Invalid);
@@ -33,7 +33,7 @@ fn kid_in(alloc: Global, value: &Value) -> Result<KeyId, InitFault>
 }
 
 fn kids_in(alloc: Global, values: &[Value]) -> Result<Vec<KeyId>, InitFault>
-    ensures { Gives OutOfMemory (λ kids. kids.items) result (read_each kid_in (map view values.now)) }
+    ensures { Gives (λ e. e ≡ OutOfMemory) (λ kids. kids.items) result (read_each kid_in (map view values.now)) }
 {
     let mut kids = Vec::with_capacity(alloc, values.len())?;
     for value in values {
@@ -45,9 +45,9 @@ fn kids_in(alloc: Global, values: &[Value]) -> Result<Vec<KeyId>, InitFault>
 
 #[tactic(auto, unfolding(crate::specs::InitData::keyids_of))]
 fn keyids_of(alloc: Global, bytes: &[u8]) -> Result<Vec<KeyId>, InitFault>
-    ensures { Gives OutOfMemory (λ kids. kids.items) result (keyids_of bytes.now) }
+    ensures { Gives (λ e. e ≡ OutOfMemory) (λ kids. kids.items) result (keyids_of bytes.now) }
 {
-    if bytes.len() > 65_536 {
+    if bytes.len() > MAX_INIT_DATA_BYTES {
         return Err(InitFault::Invalid);
     }
     let Some(object) = json_of(alloc, bytes)? else {
@@ -85,14 +85,14 @@ fn all_common_kids(alloc: Global, list: &PsshList) -> Result<Vec<KeyId>, AllocEr
 
 #[tactic(auto, unfolding(crate::specs::InitData::cenc_of))]
 fn cenc_of(alloc: Global, bytes: &[u8]) -> Result<Vec<KeyId>, InitFault>
-    ensures { Gives OutOfMemory (λ kids. kids.items) result (cenc_of bytes.now) }
+    ensures { Gives (λ e. e ≡ OutOfMemory) (λ kids. kids.items) result (cenc_of bytes.now) }
 {
     let list = read_pssh(alloc, bytes)?;
     Ok(all_common_kids(alloc, &list)?)
 }
 
 fn listed(alloc: Global, kind: InitKind, bytes: &[u8]) -> Result<Vec<KeyId>, InitFault>
-    ensures { Gives OutOfMemory (λ kids. kids.items) result (listed kind bytes.now) }
+    ensures { Gives (λ e. e ≡ OutOfMemory) (λ kids. kids.items) result (listed kind bytes.now) }
 {
     match kind {
         InitKind::Cenc => cenc_of(alloc, bytes),
@@ -124,9 +124,10 @@ fn as_kids(alloc: Global, set: IndexSet<KeyId>) -> Result<Kids, AllocError>
 /// the order of first occurrence; at least one.
 ///
 /// `Invalid` comes for bytes outside the grammar of their type or above 65,536; `NoKids` where no key id is named.
-#[tactic(auto, unfolding(crate::specs::InitData::kids_of))]
+#[tactic(auto, unfolding(crate::specs::InitData::kids_of), using(crate::proofs::FirstLemmas::some_first))]
 pub fn kids_of(alloc: Global, kind: InitKind, bytes: &[u8]) -> Result<Kids, InitFault>
     ensures ok { IfOk result (λ kids. kids_of kind bytes.now ≡ Ok kids) }
+    ensures some { IfOk result (λ kids. 0 < length kids) }
     ensures refused { IfErr result (λ fault. fault ≢ OutOfMemory → kids_of kind bytes.now ≡ Err fault) }
 {
     let kids = listed(alloc, kind, bytes)?;

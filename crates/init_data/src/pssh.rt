@@ -1,13 +1,13 @@
 // Protection system specific headers.
 ghost use Rattle.std.specs.Prelude.{◌≡◌, ◌≢◌, ◌+◌, ◌^◌, ◌≤◌, ◌<◌, ◌++◌, [], ◌∷◌, length, drop, flat_map, false, IfOk, IfErr, OnOk, OnErr, IsErrOf, Ok, Err};
 ghost use Rattle.std.specs.List.{All};
-ghost use Rattle.clearkey_json.specs.Json.{Gives};
+ghost use Rattle.eme_types.specs.FirstFault.{Gives};
 ghost use Rattle.iso_boxes.specs.Walk.{found, walk};
 ghost use Rattle.init_data.specs.declared.fault.InitFault.TheVariants.{Invalid, NoKids, OutOfMemory};
 ghost use Rattle.init_data.specs.Pssh.{some_kids, gathered, counted_kids, kids_at, content_at, pssh_of, pssh_in, pssh_list, listed_body, content_body, pssh_body, pssh_box, AreSixteen, IsCanonical, IsReadAgain};
 
 use crate::fault::InitFault;
-use eme_types::{Bytes, Items, KeyId, Kids};
+use eme_types::{Bytes, Items, KeyId, KeyIdFault, Kids, MAX_INIT_DATA_BYTES};
 use iso_boxes::{
     BoxRef, Boxes, PutFault, bytes16, fields, put_box, put_bytes, put_u32, u8_at, u24_at, u32_at,
 };
@@ -30,12 +30,13 @@ fn kid_of(alloc: Global, bytes: [u8; 16]) -> Result<KeyId, AllocError>
 {
     match KeyId::new(alloc, &bytes) {
         Ok(kid) => Ok(kid),
-        Err(_) => Err(AllocError),
+        Err(KeyIdFault::OutOfMemory) => Err(AllocError),
+        Err(KeyIdFault::Length) => unreachable!(),
     }
 }
 
 fn some_kids(alloc: Global, count: u32, bytes: &[u8]) -> Result<(Kids, &[u8]), InitFault>
-    ensures value { Gives OutOfMemory (λ x. (x.0, x.1.now)) result (some_kids count bytes.now) }
+    ensures value { Gives (λ e. e ≡ OutOfMemory) (λ x. (x.0, x.1.now)) result (some_kids count bytes.now) }
     ensures only { IfErr result (λ fault. fault ≢ NoKids) }
 {
     let mut kids = Kids::new(alloc);
@@ -54,7 +55,7 @@ fn some_kids(alloc: Global, count: u32, bytes: &[u8]) -> Result<(Kids, &[u8]), I
 // Key ids of 16 bytes, as many as a number of 32 bits says.
 #[tactic(auto, unfolding(crate::specs::Pssh::counted_kids))]
 fn counted_kids(alloc: Global, bytes: &[u8]) -> Result<(Kids, &[u8]), InitFault>
-    ensures value { Gives OutOfMemory (λ x. (x.0, x.1.now)) result (counted_kids bytes.now) }
+    ensures value { Gives (λ e. e ≡ OutOfMemory) (λ x. (x.0, x.1.now)) result (counted_kids bytes.now) }
     ensures only { IfErr result (λ fault. fault ≢ NoKids) }
 {
     fields!(bytes, InitFault::Invalid; count: u32_at);
@@ -62,7 +63,7 @@ fn counted_kids(alloc: Global, bytes: &[u8]) -> Result<(Kids, &[u8]), InitFault>
 }
 
 fn kids_at(alloc: Global, version: u8, bytes: &[u8]) -> Result<(Kids, &[u8]), InitFault>
-    ensures value { Gives OutOfMemory (λ x. (x.0, x.1.now)) result (kids_at version bytes.now) }
+    ensures value { Gives (λ e. e ≡ OutOfMemory) (λ x. (x.0, x.1.now)) result (kids_at version bytes.now) }
     ensures only { IfErr result (λ fault. fault ≢ NoKids) }
 {
     if version == 0 {
@@ -73,7 +74,7 @@ fn kids_at(alloc: Global, version: u8, bytes: &[u8]) -> Result<(Kids, &[u8]), In
 
 // The data, up to the end of the box.
 fn content_at(alloc: Global, bytes: &[u8]) -> Result<Bytes, InitFault>
-    ensures value { Gives OutOfMemory (λ content. content) result (content_at bytes.now) }
+    ensures value { Gives (λ e. e ≡ OutOfMemory) (λ content. content) result (content_at bytes.now) }
     ensures only { IfErr result (λ fault. fault ≢ NoKids) }
 {
     fields!(bytes, InitFault::Invalid; size: u32_at);
@@ -85,7 +86,7 @@ fn content_at(alloc: Global, bytes: &[u8]) -> Result<Bytes, InitFault>
 
 #[tactic(auto, unfolding(crate::specs::Pssh::pssh_of))]
 fn pssh_of(alloc: Global, body: &[u8]) -> Result<Pssh, InitFault>
-    ensures value { Gives OutOfMemory (λ pssh. pssh) result (pssh_of body.now) }
+    ensures value { Gives (λ e. e ≡ OutOfMemory) (λ pssh. pssh) result (pssh_of body.now) }
     ensures only { IfErr result (λ fault. fault ≢ NoKids) }
 {
     fields!(body, InitFault::Invalid; version: u8_at, _flags: u24_at, system: bytes16);
@@ -101,7 +102,7 @@ fn pssh_of(alloc: Global, body: &[u8]) -> Result<Pssh, InitFault>
 
 #[tactic(auto, unfolding(crate::specs::Pssh::pssh_in))]
 fn pssh_in(alloc: Global, at: &BoxRef<'_>) -> Result<Pssh, InitFault>
-    ensures value { Gives OutOfMemory (λ pssh. pssh) result (pssh_in (found at.now)) }
+    ensures value { Gives (λ e. e ≡ OutOfMemory) (λ pssh. pssh) result (pssh_in (found at.now)) }
     ensures only { IfErr result (λ fault. fault ≢ NoKids) }
 {
     if at.kind != *b"pssh" {
@@ -111,7 +112,7 @@ fn pssh_in(alloc: Global, at: &BoxRef<'_>) -> Result<Pssh, InitFault>
 }
 
 fn gathered(alloc: Global, bytes: &[u8]) -> Result<PsshList, InitFault>
-    ensures value { Gives OutOfMemory (λ list. list) result (gathered (walk bytes.now 0 false)) }
+    ensures value { Gives (λ e. e ≡ OutOfMemory) (λ list. list) result (gathered (walk bytes.now 0 false)) }
     ensures only { IfErr result (λ fault. fault ≢ NoKids) }
 {
     let mut list = PsshList::new(alloc);
@@ -135,7 +136,7 @@ pub fn read_pssh(alloc: Global, bytes: &[u8]) -> Result<PsshList, InitFault>
     ensures refused { IfErr result (λ fault. fault ≢ OutOfMemory → pssh_list bytes.now ≡ Err fault) }
     ensures only { IfErr result (λ fault. fault ≢ NoKids) }
 {
-    if bytes.is_empty() || bytes.len() > 65_536 {
+    if bytes.is_empty() || bytes.len() > MAX_INIT_DATA_BYTES {
         return Err(InitFault::Invalid);
     }
     gathered(alloc, bytes)

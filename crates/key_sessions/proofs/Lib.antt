@@ -4,6 +4,7 @@ pub mod Held
 pub mod EndedKeys
 pub mod LostKeys
 pub mod There
+pub mod Rejected
 pub mod Owed
 pub mod OwedSteps
 pub mod Planned

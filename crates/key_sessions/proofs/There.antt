@@ -24,7 +24,7 @@ use Rattle.key_sessions.specs.Machine.{SessionState, Machine, session_at, change
 use Rattle.key_sessions.specs.Steps.{Done, unmoved, with_session, queue_task, update_statuses, statuses_now}
 use Rattle.key_sessions.specs.Calls.{find_from}
 use Rattle.key_sessions.specs.Jobs.{request_job, request_error, grant_set, with_set, is_changed_by, found, update_job, take_job, after_job, cleared, without_keys}
-use Rattle.key_sessions.specs.Tasks.{run_task, take_task, after_task, is_closed, is_reported, request_done, next_id, reports_from, after_tick}
+use Rattle.key_sessions.specs.Tasks.{run_task, take_task, after_task, is_closed, is_reported, next_id, reports_from, after_tick}
 use Rattle.key_sessions.specs.Queued.{IsNumber, IsJobOf, IsTaskOf, AreThere}
 use Rattle.key_sessions.proofs.SessionLists.{length-change_session}
 

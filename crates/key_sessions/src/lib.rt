@@ -18,7 +18,7 @@ mod task_plan;
 mod tests;
 
 pub use fault::StepFault;
-pub use law::promises_are_owed_until_they_are_settled;
+pub use law::{a_rejected_call_leaves_its_promise_alone, promises_are_owed_until_they_are_settled};
 pub use lost::Lost;
 pub use sessions::Sessions;
 pub use step::Step;

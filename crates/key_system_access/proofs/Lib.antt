@@ -1,4 +1,3 @@
 pub mod AccessLemmas
 pub mod ConfigsLemmas
-pub mod PartsLemmas
 pub mod TextLemmas

@@ -13,13 +13,16 @@ use Rattle.key_system_access.specs.declared.content.Medium.{Medium}
 use Rattle.key_system_access.specs.declared.content.Medium.TheVariants.{Video, Audio}
 use Rattle.key_system_access.specs.ContentType.{is_content_type}
 
+-- the list is empty
 abbrev pub is_none_of : {A : Type 0} → List A → Bool
 is_none_of [] = true
 is_none_of (x ∷ xs) = false
 
+-- the initialization data type is supported
 abbrev pub is_init_type : List ℕ → Bool
 is_init_type text = bytes_eq text (codes "cenc") || bytes_eq text (codes "keyids")
 
+-- the session type is supported
 abbrev pub is_session_type : List ℕ → Bool
 is_session_type text = bytes_eq text (codes "temporary")
 
@@ -33,9 +36,11 @@ is_no_demand Required = false
 is_no_demand Optional = true
 is_no_demand NotAllowed = true
 
+-- the capability is supported
 abbrev pub is_capable : Medium → Capability → Bool
 is_capable medium c = is_none_of c.robustness && is_content_type medium c.content
 
+-- the content type is not empty
 abbrev pub has_content : Capability → Bool
 has_content c = not (is_none_of c.content)
 
@@ -43,6 +48,7 @@ has_content c = not (is_none_of c.content)
 abbrev pub capabilities_fit : Medium → List Capability → Bool
 capabilities_fit medium cs = list_all has_content cs && (is_none_of cs || list_any (is_capable medium) cs)
 
+-- the configuration is supported ('Get Supported Configuration')
 unfoldable pub supported : Config → Bool
 supported c =
     init_types_fit c.init_types

@@ -12,6 +12,7 @@ use Rattle.eme_types.specs.declared.access.Need.TheVariants.{Required, Optional,
 unfoldable pub text_json : List ℕ → List ℕ
 text_json text = compact_text (string text)
 
+-- an item behind another
 abbrev pub further : {A : Type 0} → (A → List ℕ) → A → List ℕ
 further writer item = codes "," ++ writer item
 
@@ -20,17 +21,21 @@ abbrev pub parted : {A : Type 0} → (A → List ℕ) → List A → List ℕ
 parted writer [] = []
 parted writer (item ∷ items) = writer item ++ flat_map (further writer) items
 
+-- a list
 abbrev pub list_json : {A : Type 0} → (A → List ℕ) → List A → List ℕ
 list_json writer items = codes "[" ++ parted writer items ++ codes "]"
 
+-- a requirement
 abbrev pub need_json : Need → List ℕ
 need_json Required = codes "\"required\""
 need_json Optional = codes "\"optional\""
 need_json NotAllowed = codes "\"not-allowed\""
 
+-- a capability
 unfoldable pub capability_json : Capability → List ℕ
 capability_json c = codes "{\"contentType\":" ++ text_json c.content ++ codes ",\"robustness\":" ++ text_json c.robustness ++ codes "}"
 
+-- a configuration, its members in the order of `Config`
 unfoldable pub config_json : Config → List ℕ
 config_json c =
     codes "{\"label\":" ++ text_json c.label

@@ -4,7 +4,7 @@ ghost use Rattle.std.specs.List.{All};
 ghost use Rattle.std.specs.Str.{IsUtf8};
 ghost use Rattle.serde_json.specs.Find.{get};
 ghost use Rattle.serde_json.specs.View.{view};
-ghost use Rattle.clearkey_json.specs.Json.{Gives, read_each};
+ghost use Rattle.eme_types.specs.FirstFault.{Gives, read_each};
 ghost use Rattle.eme_types.specs.declared.access.Need.TheVariants.{Optional};
 ghost use Rattle.key_system_access.specs.declared.configs.ConfigFault.TheVariants.{OutOfMemory};
 ghost use Rattle.key_system_access.specs.Configs.{member_or, text_of, list_in, sessions_of, capability_of, need_of, config_of, configs_of};
@@ -37,7 +37,7 @@ impl From<AllocError> for ConfigFault {
 }
 
 fn text_of(alloc: Global, value: &Value) -> Result<Bytes, ConfigFault>
-    ensures value { Gives OutOfMemory (λ text. text) result (text_of (view value.now)) }
+    ensures value { Gives (λ e. e ≡ OutOfMemory) (λ text. text) result (text_of (view value.now)) }
     ensures utf8 { IfOk result IsUtf8 }
 {
     let Some(text) = value.as_str() else {
@@ -48,7 +48,7 @@ fn text_of(alloc: Global, value: &Value) -> Result<Bytes, ConfigFault>
 
 // The text at a member.
 fn text_at(alloc: Global, object: &Value, name: &str) -> Result<Bytes, ConfigFault>
-    ensures value { Gives OutOfMemory (λ text. text) result (member_or [] text_of (get name.now (view object.now))) }
+    ensures value { Gives (λ e. e ≡ OutOfMemory) (λ text. text) result (member_or [] text_of (get name.now (view object.now))) }
     ensures utf8 { IfOk result IsUtf8 }
 {
     match object.get(name) {
@@ -58,7 +58,7 @@ fn text_at(alloc: Global, object: &Value, name: &str) -> Result<Bytes, ConfigFau
 }
 
 fn texts_in(alloc: Global, values: &[Value]) -> Result<Texts, ConfigFault>
-    ensures value { Gives OutOfMemory (λ texts. texts) result (read_each text_of (map view values.now)) }
+    ensures value { Gives (λ e. e ≡ OutOfMemory) (λ texts. texts) result (read_each text_of (map view values.now)) }
     ensures utf8 { IfOk result (All IsUtf8) }
 {
     let mut texts = Texts::with_capacity(alloc, values.len())?;
@@ -70,7 +70,7 @@ fn texts_in(alloc: Global, values: &[Value]) -> Result<Texts, ConfigFault>
 }
 
 fn texts_of(alloc: Global, list: &Value) -> Result<Texts, ConfigFault>
-    ensures value { Gives OutOfMemory (λ texts. texts) result (list_in text_of (view list.now)) }
+    ensures value { Gives (λ e. e ≡ OutOfMemory) (λ texts. texts) result (list_in text_of (view list.now)) }
     ensures utf8 { IfOk result (All IsUtf8) }
 {
     let Some(values) = list.as_array() else {
@@ -81,7 +81,7 @@ fn texts_of(alloc: Global, list: &Value) -> Result<Texts, ConfigFault>
 
 // The list of texts at a member.
 fn texts_at(alloc: Global, object: &Value, name: &str) -> Result<Texts, ConfigFault>
-    ensures value { Gives OutOfMemory (λ texts. texts) result (member_or [] (list_in text_of) (get name.now (view object.now))) }
+    ensures value { Gives (λ e. e ≡ OutOfMemory) (λ texts. texts) result (member_or [] (list_in text_of) (get name.now (view object.now))) }
     ensures utf8 { IfOk result (All IsUtf8) }
 {
     match object.get(name) {
@@ -92,7 +92,7 @@ fn texts_at(alloc: Global, object: &Value, name: &str) -> Result<Texts, ConfigFa
 
 // The list of session types.
 fn sessions_of(alloc: Global, object: &Value) -> Result<Texts, ConfigFault>
-    ensures value { Gives OutOfMemory (λ texts. texts) result (sessions_of (view object.now)) }
+    ensures value { Gives (λ e. e ≡ OutOfMemory) (λ texts. texts) result (sessions_of (view object.now)) }
     ensures utf8 { IfOk result (All IsUtf8) }
 {
     let Some(list) = object.get("sessionTypes") else {
@@ -105,7 +105,7 @@ fn sessions_of(alloc: Global, object: &Value) -> Result<Texts, ConfigFault>
 
 #[tactic(auto, unfolding(crate::specs::Configs::capability_of))]
 fn capability_of(alloc: Global, object: &Value) -> Result<Capability, ConfigFault>
-    ensures value { Gives OutOfMemory (λ capability. capability) result (capability_of (view object.now)) }
+    ensures value { Gives (λ e. e ≡ OutOfMemory) (λ capability. capability) result (capability_of (view object.now)) }
     ensures utf8 { IfOk result IsCapabilityUtf8 }
 {
     if !object.is_object() {
@@ -120,7 +120,7 @@ fn capability_of(alloc: Global, object: &Value) -> Result<Capability, ConfigFaul
 }
 
 fn capabilities_in(alloc: Global, values: &[Value]) -> Result<Capabilities, ConfigFault>
-    ensures value { Gives OutOfMemory (λ capabilities. capabilities) result (read_each capability_of (map view values.now)) }
+    ensures value { Gives (λ e. e ≡ OutOfMemory) (λ capabilities. capabilities) result (read_each capability_of (map view values.now)) }
     ensures utf8 { IfOk result (All IsCapabilityUtf8) }
 {
     let mut capabilities = Capabilities::with_capacity(alloc, values.len())?;
@@ -133,7 +133,7 @@ fn capabilities_in(alloc: Global, values: &[Value]) -> Result<Capabilities, Conf
 
 // The list of capabilities at a member.
 fn capabilities_at(alloc: Global, object: &Value, name: &str) -> Result<Capabilities, ConfigFault>
-    ensures value { Gives OutOfMemory (λ capabilities. capabilities) result (member_or [] (list_in capability_of) (get name.now (view object.now))) }
+    ensures value { Gives (λ e. e ≡ OutOfMemory) (λ capabilities. capabilities) result (member_or [] (list_in capability_of) (get name.now (view object.now))) }
     ensures utf8 { IfOk result (All IsCapabilityUtf8) }
 {
     let Some(list) = object.get(name) else {
@@ -175,7 +175,7 @@ fn need_at(object: &Value, name: &str) -> Result<Need, ConfigFault>
 
 #[tactic(auto, unfolding(crate::specs::Configs::config_of))]
 fn config_of(alloc: Global, object: &Value) -> Result<Config, ConfigFault>
-    ensures value { Gives OutOfMemory (λ config. config) result (config_of (view object.now)) }
+    ensures value { Gives (λ e. e ≡ OutOfMemory) (λ config. config) result (config_of (view object.now)) }
     ensures utf8 { IfOk result IsConfigUtf8 }
 {
     if !object.is_object() {
@@ -200,7 +200,7 @@ fn config_of(alloc: Global, object: &Value) -> Result<Config, ConfigFault>
 }
 
 fn configs_in(alloc: Global, values: &[Value]) -> Result<Configs, ConfigFault>
-    ensures value { Gives OutOfMemory (λ configs. configs) result (read_each config_of (map view values.now)) }
+    ensures value { Gives (λ e. e ≡ OutOfMemory) (λ configs. configs) result (read_each config_of (map view values.now)) }
     ensures utf8 { IfOk result (All IsConfigUtf8) }
 {
     let mut configs = Configs::with_capacity(alloc, values.len())?;

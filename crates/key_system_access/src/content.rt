@@ -1,7 +1,9 @@
 // Content types.
-ghost use Rattle.std.specs.Prelude.{◌≡◌, ◌<◌, length, drop, take_while, IfSome, option_map, bytes_eq};
+ghost use Rattle.std.specs.Prelude.{◌≡◌, length, take_while, option_map, bytes_eq};
 ghost use Rattle.std.specs.List.{list_all, list_any};
-ghost use Rattle.key_system_access.specs.ContentType.{skip_spaces, behind, before, media_type, families, is_codec_byte, is_no_dot, is_codec, is_no_comma, behind_comma, parts_of, are_further, are_codecs, unquoted, codec_list, is_content_type};
+ghost use Rattle.key_system_access.specs.ContentType.{skip_spaces, before, media_type, families, is_codec_byte, is_no_dot, is_codec, are_codecs, unquoted, codec_list, is_content_type};
+
+use text_words::{Pieces, behind};
 
 /// The medium of a list of capabilities.
 #[derive(Clone, Copy, Debug, PartialEq, Eq)]
@@ -18,16 +20,6 @@ fn skip_spaces(text: &[u8]) -> &[u8]
         rest = others;
     }
     rest
-}
-
-fn behind<'a>(front: &[u8], text: &'a [u8]) -> Option<&'a [u8]>
-    ensures { option_map (λ r. r.now) result ≡ behind front.now text.now }
-{
-    if text.starts_with(front) {
-        Some(&text[front.len()..])
-    } else {
-        None
-    }
 }
 
 fn before<'a>(end: &[u8], text: &'a [u8]) -> Option<&'a [u8]>
@@ -87,51 +79,24 @@ fn is_codec(medium: Medium, codec: &[u8]) -> bool
     are_codec_bytes(codec) && is_family(medium, &codec[..family_len(codec)])
 }
 
-fn part_len(text: &[u8]) -> usize
-    ensures { result ≡ length (take_while is_no_comma text.now) }
-{
-    text.iter().take_while(|b| **b != b',').count()
-}
-
-// A text before its first comma, and from it on.
-fn cut(text: &[u8]) -> (&[u8], &[u8])
-    ensures first { result.0.now ≡ take_while is_no_comma text.now }
-    ensures rest { result.1.now ≡ drop (length (take_while is_no_comma text.now)) text.now }
-{
-    let count = part_len(text);
-    (&text[..count], &text[count..])
-}
-
-fn behind_comma(text: &[u8]) -> Option<&[u8]>
-    ensures value { option_map (λ r. r.now) result ≡ behind_comma text.now }
-    ensures shorter { IfSome result (λ r. length r.now < length text.now) }
-{
-    match text {
-        [b',', others @ ..] => Some(others),
-        _ => None,
-    }
-}
-
-// The codecs behind the first one, each with its comma before it.
-fn are_further(medium: Medium, text: &[u8]) -> bool
-    ensures { result ≡ are_further medium (parts_of (behind_comma text.now)) }
-{
-    let mut rest = text;
-    while let Some(others) = behind_comma(rest) {
-        let (part, more) = cut(others);
-        if !is_codec(medium, skip_spaces(part)) {
-            return false;
-        }
-        rest = more;
-    }
-    true
-}
-
+// One or more codecs, parted by commas, with any spaces before each but the first.
+#[tactic(auto, unfolding(crate::specs::ContentType::are_codecs))]
 fn are_codecs(medium: Medium, text: &[u8]) -> bool
     ensures { result ≡ are_codecs medium text.now }
 {
-    let (part, more) = cut(text);
-    is_codec(medium, part) && are_further(medium, more)
+    let mut parts = Pieces::new(text, b',');
+    let Some(first) = parts.next() else {
+        return false;
+    };
+    if !is_codec(medium, first) {
+        return false;
+    }
+    while let Some(part) = parts.next() {
+        if !is_codec(medium, skip_spaces(part)) {
+            return false;
+        }
+    }
+    true
 }
 
 // The list of codecs alone.

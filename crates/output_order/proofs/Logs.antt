@@ -3,7 +3,6 @@ use Rattle.std.proofs.Common.{zero, suc, ◌≡◌, ℕ, ◌+◌, ◌<◌, ◌�
 use Rattle.std.specs.List.{fold}
 use Rattle.std.proofs.lemmas.List.{drop_more, drop_all}
 use Rattle.std.proofs.lemmas.List.Sums.{fold_more}
-use Rattle.std.proofs.lemmas.Option.{same_Some}
 use Rattle.eme_types.specs.declared.entry.Entry.{Entry}
 use Rattle.eme_types.specs.declared.entry.Entry.TheVariants.{Feed}
 use Rattle.eme_types.specs.declared.call.Effect.{Effect}
@@ -12,6 +11,7 @@ use Rattle.cdm_state.specs.After.{after_entry, effects_of}
 use Rattle.cdm_state.specs.History.{world}
 use Rattle.cdm_state.specs.Settlements.{effects_from, effects_in}
 use Rattle.output_order.proofs.Puts.{put_three}
+use Rattle.output_order.proofs.Sizes.{some_same}
 use Rattle.output_order.specs.Log.{entry_line, effect_lines, fragments_fed, lines_from, log_of}
 use Rattle.output_order.specs.Law.{LogGoesOn}
 
@@ -75,7 +75,7 @@ logged_more ids h i fed text now next e effects at l line more =
     let x : Entry = get_or h i e in
     let rest : List Entry = drop (i + 1) h in
     let G : Entry → List Effect → World → List ℕ = λ y fx u. entry_line (i + 1) fed y ++ (effect_lines fx ++ lines_from u (i + 1 + 1) (fed + fragments_fed y) rest) in
-    let did : effects ≡ effects_of w x = same_Some effects (effects_of w x) (sym at.did ∙ effects_at ids h i e at.within) in
+    let did : effects ≡ effects_of w x = some_same (sym at.did ∙ effects_at ids h i e at.within) in
     let goes : v ≡ after_entry w x = world_more ids h i e at.within in
     let left : drop i h ≡ x ∷ rest = drop_more h i e at.within in
     let split : G e effects v ≡ lines_from w (i + 1) fed (drop i h) = ap (λ y. G y effects v) at.is ∙ (ap (λ fx. G x fx v) did ∙ (ap (λ u. G x (effects_of w x) u) goes ∙ sym (ap (λ es. lines_from w (i + 1) fed es) left))) in

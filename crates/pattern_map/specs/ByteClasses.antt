@@ -32,6 +32,7 @@ spot_from s (p ∷ more) i =
     else if nat_lt i (p.clear + p.prot) then Some (record { subsample = s; place = i - p.clear; size = p.prot })
     else spot_from (s + 1) more (i - (p.clear + p.prot))
 
+-- byte i stands in the protected part of a subsample
 abbrev pub is_protected : List Sub → ℕ → Bool
 is_protected subs i = is_some (spot_from 0 subs i)
 
@@ -69,6 +70,7 @@ abbrev pub class_in : Option Protect → ℕ → ℕ → ByteClass
 class_in None size i = Clear
 class_in (Some p) size i = protected_class p.scheme p size i
 
+-- the class of byte i of a sample
 abbrev pub byte_class : EncSample → ℕ → ByteClass
 byte_class s i = class_in s.protect (length s.bytes) i
 

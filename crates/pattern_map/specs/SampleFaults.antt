@@ -15,5 +15,6 @@ first_fault_of (Some p) size =
     else if not (pattern_fits p.scheme p.crypt p.skip) then Err Pattern
     else Ok tt
 
+-- the first rule that a sample breaks
 abbrev pub first_fault : EncSample → Result (Unit {0}) SampleFault
 first_fault s = first_fault_of s.protect (length s.bytes)

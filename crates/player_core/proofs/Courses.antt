@@ -1,12 +1,11 @@
 -- A play, one line on, and what follows the last line.
-use Rattle.std.proofs.Common.{zero, suc, ◌≡◌, ◌≢◌, ℕ, ◌+◌, ◌-◌, ◌≤◌, ◌<◌, Bool, false, IsTrue, List, [], ◌∷◌, ◌++◌, Option, Some, None, length, take, drop, get_or, slice_get, if◌then◌else◌, refl, ap, ◌∙◌, sym, subst, append-nil, append_assoc, arith}
+use Rattle.std.proofs.Common.{zero, suc, ◌≡◌, ◌≢◌, ℕ, ◌+◌, ◌-◌, ◌≤◌, ◌<◌, Bool, false, IsTrue, List, [], ◌∷◌, ◌++◌, Option, Some, length, take, drop, slice_get, if◌then◌else◌, refl, ap, ◌∙◌, sym, subst, append-nil, append_assoc, arith}
 use Rattle.std.specs.List.{fold, AllByRecursion}
 use Rattle.std.specs.Prelude.{◌==◌, nat_le, ◌^◌}
 use Rattle.std.proofs.lemmas.Bool.{leb-true, eqb-true}
 use Rattle.std.proofs.Math.Dec.{eqb-suc-zero}
-use Rattle.std.proofs.lemmas.List.{drop_all, take_all, drop_more}
+use Rattle.std.proofs.lemmas.List.{take_all, length-drop}
 use Rattle.std.proofs.lemmas.List.Sums.{fold-append}
-use Rattle.std.proofs.lemmas.Option.{slice_get-get_or}
 use Rattle.eme_types.specs.declared.media.Fragment.{Fragment}
 use Rattle.eme_types.specs.declared.media.Media.{Media}
 use Rattle.eme_types.specs.declared.entry.Entry.{Entry}
@@ -24,9 +23,9 @@ use Rattle.cdm_state.specs.Progress.{NoneWaits}
 use Rattle.output_order.specs.Lane.{line_with, line_of, lines_in, lane, asked, asked_in, feeds_in}
 use Rattle.output_order.specs.Complete.{HasLane, IsOfLine, feed_rest, implied, IsComplete}
 use Rattle.output_order.specs.Staffed.{NamesWorker, times_given_up, IsStaffed}
-use Rattle.output_order.proofs.Sizes.{taken_more, something_at, nothing_at, some_same}
+use Rattle.output_order.proofs.Sizes.{taken_more, some_same}
 use Rattle.player_core.specs.Alone.{AreInTurn, IsAlone}
-use Rattle.player_core.specs.Course.{entry_for, entry_of, IsOfOneThread, Goes, Settles, MayGo, next_after, next_by, moment_by, moment_of, HasFed, HasGone, HasFollowed}
+use Rattle.player_core.specs.Course.{entry_for, entry_of, IsOfOneThread, Goes, Settles, MayGo, left_by, moment_by, moment_of, HasFed, HasGone, HasFollowed}
 use Rattle.player_core.proofs.Steps.{all_append}
 use Rattle.player_core.proofs.Added.{lines_added, asked_added, ticks_added, feeds_asked, no_times_given_up}
 use Rattle.player_core.proofs.Scripts.{both_true, number_above_0, lane_fits_at, moment_fits_at}
@@ -77,15 +76,15 @@ ticks_back last number lane FeedAction given = refl
 ticks_back last number lane (Clock moment) given = refl
 ticks_back last number lane SettleAction given = refl
 
-fed_back : (media : Media) (next : ℕ) (old new : Run) (number lane : ℕ) (action : Action) → IsTrue (lane_fits lane action) → Goes old new (entry_for number lane action (slice_get media.fragments next)) → HasFed media next old → HasFed media (next_by next action (slice_get media.fragments next)) new
-fed_back media next old new number lane (Ask call) fits g fed = fed_kept media next old new (Call lane number call) g refl refl refl refl (leb-true lane 7 fits) fed
-fed_back media next old new number lane FeedAction fits g fed = fed_more media next old new number g fed
-fed_back media next old new number lane (Clock moment) fits g fed = fed_kept media next old new (Tick number moment) g refl refl refl refl tt fed
-fed_back media next old new number lane SettleAction fits g fed = fed_kept media next old new (Settle number) g refl refl refl refl tt fed
+fed_back : (media : Media) (left : List Fragment) (old new : Run) (number lane : ℕ) (action : Action) → IsTrue (lane_fits lane action) → Goes old new (entry_for number lane action (slice_get left 0)) → HasFed media left old → HasFed media (left_by left action) new
+fed_back media left old new number lane (Ask call) fits g fed = fed_kept media left old new (Call lane number call) g refl refl refl refl (leb-true lane 7 fits) fed
+fed_back media left old new number lane FeedAction fits g fed = fed_more media left old new number g fed
+fed_back media left old new number lane (Clock moment) fits g fed = fed_kept media left old new (Tick number moment) g refl refl refl refl tt fed
+fed_back media left old new number lane SettleAction fits g fed = fed_kept media left old new (Settle number) g refl refl refl refl tt fed
 
 -- the tracks of a play are distinct
-pub fed_distinct : (media : Media) (next : ℕ) (r : Run) → IsFed media → HasFed media next r → IsTrue (are_distinct r.tracks)
-fed_distinct media next r m fed = ap are_distinct fed.tracks ∙ m.distinct
+pub fed_distinct : (media : Media) (left : List Fragment) (r : Run) → HasFed media left r → IsTrue (are_distinct r.tracks)
+fed_distinct media left r fed = ap are_distinct fed.tracks ∙ fed.valid.distinct
 
 may_do : (r : Run) (now : ℕ) (action : Action) (given : Option Fragment) → MayFeedNext r.tracks r.history given → NoneWaits r.history → IsTrue (are_distinct r.tracks) → (world r.tracks r.history).machine.moment ≡ now → IsTrue (moment_fits now action) → MayGo r action given
 may_do r now (Ask call) given may none distinct is fits = tt
@@ -94,20 +93,20 @@ may_do r now (Clock moment) given may none distinct is fits = subst (λ n. n ≤
 may_do r now SettleAction given may none distinct is fits = (none, distinct)
 
 -- what the next line needs is there
-pub may_go : (script : List Line) (media : Media) (n next : ℕ) (r : Run) (line : Line) → MomentIsOfLastTick → IsScript script → IsFed media → slice_get script n ≡ Some line → HasGone script media n next r → MayGo r line.action (slice_get media.fragments next)
-may_go script media n next r line law s m at gone =
-    may_do r (moment_of (take n script)) line.action (slice_get media.fragments next) (may_feed media next r m gone.fed) gone.fed.delivered (fed_distinct media next r m gone.fed) (law r.tracks r.history ∙ gone.moment) (moment_fits_at script n line s at)
+pub may_go : (script : List Line) (media : Media) (n : ℕ) (left : List Fragment) (r : Run) (line : Line) → MomentIsOfLastTick → IsScript script → slice_get script n ≡ Some line → HasGone script media n left r → MayGo r line.action (slice_get left 0)
+may_go script media n left r line law s at gone =
+    may_do r (moment_of (take n script)) line.action (slice_get left 0) (may_feed media left r gone.fed) gone.fed.delivered (fed_distinct media left r gone.fed) (law r.tracks r.history ∙ gone.moment) (moment_fits_at script n line s at)
 
 -- one line on
-pub gone_more : (script : List Line) (media : Media) (n next : ℕ) (old new : Run) (line : Line) → IsScript script → slice_get script n ≡ Some line → Goes old new (entry_of line (slice_get media.fragments next)) → HasGone script media n next old → HasGone script media (n + 1) (next_by next line.action (slice_get media.fragments next)) new
-gone_more script media n next old new line s at g gone =
-    let given : Option Fragment = slice_get media.fragments next in
+pub gone_more : (script : List Line) (media : Media) (n : ℕ) (left : List Fragment) (old new : Run) (line : Line) → IsScript script → slice_get script n ≡ Some line → Goes old new (entry_of line (slice_get left 0)) → HasGone script media n left old → HasGone script media (n + 1) (left_by left line.action) new
+gone_more script media n left old new line s at g gone =
+    let given : Option Fragment = slice_get left 0 in
     let e : Entry = entry_of line given in
     let above : line.number ≢ 0 = number_above_0 script n line s at in
     let fits : IsTrue (lane_fits line.lane line.action) = lane_fits_at script n line s at in
     let more : take (n + 1) script ≡ take n script ++ line ∷ [] = taken_more script n line at in
     record {
-      fed = fed_back media next old new line.number line.lane line.action fits g gone.fed;
+      fed = fed_back media left old new line.number line.lane line.action fits g gone.fed;
       lines = lines_added old new e g ∙ (ap (λ xs. lines_in old.history ++ xs) (line_back line.number line.lane line.action given above fits) ∙ (ap (λ xs. xs ++ line ∷ []) gone.lines ∙ sym more));
       above = subst (λ xs. AllByRecursion IsOfLine xs) (sym (asked_added old new e g ∙ ap (λ xs. asked_in old.history ++ xs) (asked_back line.number line.lane line.action given))) (all_append IsOfLine (asked_in old.history) (e ∷ []) gone.above (above_back line.number line.lane line.action given above, tt));
       moment = ticks_added old new e g ∙ (ticks_back (fold tick_to 0 old.history) line.number line.lane line.action given ∙ (ap (λ last. moment_after last line.action) gone.moment ∙ sym (ap moment_of more ∙ fold-append moment_by 0 (take n script) (line ∷ []))));
@@ -117,18 +116,17 @@ nothing_there : (n : ℕ) (e : Entry) → slice_get [] n ≡ Some e → ⊥
 nothing_there n e at = cc
 
 -- nothing is done yet
-pub gone_none : (script : List Line) (media : Media) (r : Run) → r ≡ record { tracks = media.tracks; history = [] } → HasGone script media 0 0 r
-gone_none script media r is =
+pub gone_none : (script : List Line) (media : Media) (left : List Fragment) (r : Run) → IsFed media → left ≡ media.fragments → r ≡ record { tracks = media.tracks; history = [] } → HasGone script media 0 left r
+gone_none script media left r valid all is =
     let start : Run = record { tracks = media.tracks; history = [] } in
-    let begun : HasGone script media 0 0 start = record {
+    let begun : HasGone script media 0 media.fragments start = record {
       fed = record {
+        valid = valid;
         tracks = refl;
         feeds = λ k given at. absurd cc;
-        within = omega arith;
-        passed = omega arith;
-        left = refl;
-        samples = refl;
-        bytes = refl;
+        left_ = refl;
+        samples = omega arith;
+        bytes = omega arith;
         alone = tt;
         delivered = λ place u. nothing_there (place - 1) (Claim u.worker u.track u.index u.session u.kid) u.at.1;
         turns = record { each = λ n e at. absurd (nothing_there n e at) };
@@ -138,63 +136,44 @@ gone_none script media r is =
       above = tt;
       moment = refl;
     } in
-    subst (λ s. HasGone script media 0 0 s) (sym is) begun
+    subst (λ fs. HasGone script media 0 fs r) (sym all) (subst (λ s. HasGone script media 0 media.fragments s) (sym is) begun)
 
 -- the settle behind the last line
-pub followed_first : (script : List Line) (media : Media) (next : ℕ) (old new : Run) → Settles old new 0 → HasGone script media (length script) next old → HasFollowed script media next new
-followed_first script media next old new s gone =
+pub followed_first : (script : List Line) (media : Media) (left : List Fragment) (old new : Run) → Settles old new 0 → HasGone script media (length script) left old → HasFollowed script media left new
+followed_first script media left old new s gone =
     let g : Goes old new (Settle 0) = s.goes in
     let before : List Entry = asked_in old.history in
     let many : length (feeds_in before) ≡ length (feeds_in old.history) = ap length (feeds_asked old.history) in
-    let left : drop (length (feeds_in before)) media.fragments ≡ drop next media.fragments = ap (λ n. drop n media.fragments) many ∙ gone.fed.left in
+    let same : drop (length (feeds_in before)) media.fragments ≡ left = ap (λ n. drop n media.fragments) many ∙ gone.fed.left_ in
     record {
-      fed = fed_kept media next old new (Settle 0) g refl refl refl refl tt gone.fed;
+      fed = fed_kept media left old new (Settle 0) g refl refl refl refl tt gone.fed;
       lines = lines_added old new (Settle 0) g ∙ (append-nil (lines_in old.history) ∙ (gone.lines ∙ take_all (length script) script (let le : length script ≤ length script = omega arith in le)));
       before = before;
       above = gone.above;
-      follows = ap (λ xs. xs ++ feed_rest (drop next media.fragments)) (asked_added old new (Settle 0) g) ∙ (append_assoc before (Settle 0 ∷ []) (feed_rest (drop next media.fragments)) ∙ ap (λ fs. before ++ implied fs) (sym left));
+      follows = ap (λ xs. xs ++ feed_rest left) (asked_added old new (Settle 0) g) ∙ (append_assoc before (Settle 0 ∷ []) (feed_rest left) ∙ ap (λ fs. before ++ implied fs) (sym same));
       rest = s.rest;
     }
-
-rest_with : (fragments : List Fragment) (next : ℕ) (f : Fragment) → slice_get fragments next ≡ Some f → feed_rest (drop next fragments) ≡ Feed 0 (Some f) ∷ (Settle 0 ∷ feed_rest (drop (next + 1) fragments))
-rest_with fragments next f at =
-    let lt : next < length fragments = something_at fragments next f at in
-    let same : get_or fragments next f ≡ f = some_same (sym (slice_get-get_or fragments next f lt) ∙ at) in
-    ap feed_rest (drop_more fragments next f lt ∙ ap (λ x. x ∷ drop (next + 1) fragments) same)
 
 two_more : (asked_old asked_mid asked_new left : List Entry) (f s : Entry) → asked_mid ≡ asked_old ++ f ∷ [] → asked_new ≡ asked_mid ++ s ∷ [] → asked_new ++ left ≡ asked_old ++ f ∷ (s ∷ left)
 two_more asked_old asked_mid asked_new left f s mid new =
     ap (λ xs. xs ++ left) (new ∙ (ap (λ xs. xs ++ s ∷ []) mid ∙ append_assoc asked_old (f ∷ []) (s ∷ []))) ∙ append_assoc asked_old (f ∷ (s ∷ [])) left
 
-followed_with : (script : List Line) (media : Media) (next : ℕ) (old mid new : Run) (f : Fragment) → slice_get media.fragments next ≡ Some f → Goes old mid (Feed 0 (slice_get media.fragments next)) → Settles mid new 0 → HasFollowed script media next old → HasFollowed script media (next_after next (slice_get media.fragments next)) new
-followed_with script media next old mid new f at g s followed =
-    let given : Option Fragment = slice_get media.fragments next in
-    let fed : HasFed media (next_after next given) mid = fed_more media next old mid 0 g followed.fed in
-    let asked_mid : asked_in mid.history ≡ asked_in old.history ++ Feed 0 (Some f) ∷ [] = asked_added old mid (Feed 0 given) g ∙ ap (λ x. asked_in old.history ++ Feed 0 x ∷ []) at in
-    let after : next_after next given ≡ next + 1 = ap (next_after next) at in
+followed_next : (script : List Line) (media : Media) (f : Fragment) (left : List Fragment) (old mid new : Run) → Goes old mid (Feed 0 (Some f)) → Settles mid new 0 → HasFollowed script media (f ∷ left) old → HasFollowed script media left new
+followed_next script media f left old mid new g s followed =
+    let fed : HasFed media left mid = fed_more media (f ∷ left) old mid 0 g followed.fed in
     record {
-      fed = fed_kept media (next_after next given) mid new (Settle 0) s.goes refl refl refl refl tt fed;
-      lines = lines_added mid new (Settle 0) s.goes ∙ (append-nil (lines_in mid.history) ∙ (lines_added old mid (Feed 0 given) g ∙ (append-nil (lines_in old.history) ∙ followed.lines)));
+      fed = fed_kept media left mid new (Settle 0) s.goes refl refl refl refl tt fed;
+      lines = lines_added mid new (Settle 0) s.goes ∙ (append-nil (lines_in mid.history) ∙ (lines_added old mid (Feed 0 (Some f)) g ∙ (append-nil (lines_in old.history) ∙ followed.lines)));
       before = followed.before;
       above = followed.above;
-      follows = ap (λ n. asked_in new.history ++ feed_rest (drop n media.fragments)) after ∙ (two_more (asked_in old.history) (asked_in mid.history) (asked_in new.history) (feed_rest (drop (next + 1) media.fragments)) (Feed 0 (Some f)) (Settle 0) asked_mid (asked_added mid new (Settle 0) s.goes) ∙ (ap (λ xs. asked_in old.history ++ xs) (sym (rest_with media.fragments next f at)) ∙ followed.follows));
+      follows = two_more (asked_in old.history) (asked_in mid.history) (asked_in new.history) (feed_rest left) (Feed 0 (Some f)) (Settle 0) (asked_added old mid (Feed 0 (Some f)) g) (asked_added mid new (Settle 0) s.goes) ∙ followed.follows;
       rest = s.rest;
     }
 
-followed_given : (script : List Line) (media : Media) (next : ℕ) (old mid new : Run) (given : Option Fragment) → slice_get media.fragments next ≡ given → next < length media.fragments → Goes old mid (Feed 0 (slice_get media.fragments next)) → Settles mid new 0 → HasFollowed script media next old → HasFollowed script media (next_after next (slice_get media.fragments next)) new
-followed_given script media next old mid new None at lt g s followed = let end : length media.fragments ≤ next = nothing_at media.fragments next at in absurd (omega (arith, lt, end))
-followed_given script media next old mid new (Some f) at lt g s followed = followed_with script media next old mid new f at g s followed
-
 -- one fragment more, and its settle
-pub followed_more : (script : List Line) (media : Media) (next : ℕ) (old mid new : Run) → next < length media.fragments → Goes old mid (Feed 0 (slice_get media.fragments next)) → Settles mid new 0 → HasFollowed script media next old → HasFollowed script media (next_after next (slice_get media.fragments next)) new
-followed_more script media next old mid new lt g s followed = followed_given script media next old mid new (slice_get media.fragments next) refl lt g s followed
-
-grows_given : (fragments : List Fragment) (next : ℕ) (given : Option Fragment) → slice_get fragments next ≡ given → next < length fragments → next_after next given ≡ next + 1
-grows_given fragments next None at lt = let end : length fragments ≤ next = nothing_at fragments next at in absurd (omega (arith, lt, end))
-grows_given fragments next (Some f) at lt = refl
-
-pub next_grows : (fragments : List Fragment) (next : ℕ) → next < length fragments → next_after next (slice_get fragments next) ≡ next + 1
-next_grows fragments next lt = grows_given fragments next (slice_get fragments next) refl lt
+pub followed_more : (script : List Line) (media : Media) (left : List Fragment) (old mid new : Run) → 0 < length left → Goes old mid (Feed 0 (slice_get left 0)) → Settles mid new 0 → HasFollowed script media left old → HasFollowed script media (drop 1 left) new
+followed_more script media [] old mid new some g s followed = absurd (omega (arith, some))
+followed_more script media (f ∷ left) old mid new some g s followed = followed_next script media f left old mid new g s followed
 
 alone_lane : (e : Entry) → IsOfOneThread e → HasLane e
 alone_lane (Call lane line call) a = a
@@ -224,25 +203,21 @@ alone_worker (PassClear track index) a = tt
 alone_worker (WaitForKey track) a = tt
 alone_worker (Settle line) a = tt
 
+none_left : {A : Type 0} (n : ℕ) (xs : List A) → drop n xs ≡ [] → length xs ≤ n
+none_left n xs is = let many = length-drop n xs in let none = ap length is in omega (arith, many, none)
+
 -- with no fragment left the history is complete
-pub is_complete : (script : List Line) (media : Media) (r : Run) → HasFollowed script media (length media.fragments) r → IsComplete script media r.history
-is_complete script media r followed =
-    let fragments : List Fragment = media.fragments in
-    let none : drop (length fragments) fragments ≡ [] = drop_all (length fragments) fragments (let le : length fragments ≤ length fragments = omega arith in le) in
-    record {
-      lanes = λ i few. ap (λ lines. lane lines i) followed.lines;
-      known = λ n e at. alone_lane e (all_at IsOfOneThread r.history n e followed.fed.alone at);
-      feeds = record { each = followed.fed.feeds; all = followed.fed.passed };
-      implied = record {
-        lines = followed.before;
-        above = followed.above;
-        is = sym (append-nil (asked_in r.history)) ∙ (ap (λ fs. asked_in r.history ++ feed_rest fs) (sym none) ∙ followed.follows);
-      };
-      rest = subst (λ ids. AtRest (world ids r.history)) followed.fed.tracks followed.rest;
-    }
+pub is_complete : (script : List Line) (media : Media) (r : Run) → HasFollowed script media [] r → IsComplete script media r.history
+is_complete script media r followed = record {
+  lanes = λ i few. ap (λ lines. lane lines i) followed.lines;
+  known = λ n e at. alone_lane e (all_at IsOfOneThread r.history n e followed.fed.alone at);
+  feeds = record { each = followed.fed.feeds; all = none_left (length (feeds_in r.history)) media.fragments followed.fed.left_ };
+  implied = record { lines = followed.before; above = followed.above; is = sym (append-nil (asked_in r.history)) ∙ followed.follows };
+  rest = subst (λ ids. AtRest (world ids r.history)) followed.fed.tracks followed.rest;
+}
 
 -- and it is that of the alone order
-pub is_alone : (script : List Line) (media : Media) (r : Run) → IsLegal r.tracks r.history → HasFollowed script media (length media.fragments) r → IsAlone script media r.history
+pub is_alone : (script : List Line) (media : Media) (r : Run) → IsLegal r.tracks r.history → HasFollowed script media [] r → IsAlone script media r.history
 is_alone script media r legal followed = record {
   legal = subst (λ ids. IsLegal ids r.history) followed.fed.tracks legal;
   complete = is_complete script media r followed;

@@ -1,11 +1,11 @@
 -- How far a play has come.
-use Rattle.std.specs.Prelude.{ℕ, ◌+◌, ◌≡◌, ◌≤◌, ◌<◌, List, [], ◌∷◌, ◌++◌, length, take, drop, Option, Some, None, IsTrue}
+use Rattle.std.specs.Prelude.{ℕ, ◌+◌, ◌≡◌, ◌≤◌, ◌<◌, List, [], ◌∷◌, ◌++◌, length, take, drop, Option, IsTrue}
 use Rattle.std.specs.List.{fold, sum_by, AllByRecursion}
 use Rattle.eme_types.specs.declared.media.Fragment.{Fragment}
 use Rattle.eme_types.specs.declared.media.Media.{Media}
 use Rattle.eme_types.specs.declared.entry.Entry.{Entry}
 use Rattle.eme_types.specs.declared.entry.Entry.TheVariants.{Call, Job, Task, Tick, Feed, Claim, Deliver, GiveUp, Publish, PassClear, WaitForKey, Settle}
-use Rattle.eme_types.specs.Fed.{are_distinct, fragment_samples, fragment_bytes}
+use Rattle.eme_types.specs.Fed.{IsFed, are_distinct, fragment_samples, fragment_bytes}
 use Rattle.script_lang.specs.declared.script.Line.{Line}
 use Rattle.script_lang.specs.declared.script.Action.{Action}
 use Rattle.script_lang.specs.declared.script.Action.TheVariants.{Ask, Feed as FeedAction, Clock, Settle as SettleAction}
@@ -80,17 +80,12 @@ MayGo r FeedAction given = MayFeedNext r.tracks r.history given
 MayGo r (Clock moment) given = (world r.tracks r.history).machine.moment ≤ moment
 MayGo r SettleAction given = NoneWaits r.history × IsTrue (are_distinct r.tracks)
 
--- the number of the next fragment, from 0, after a feed
-abbrev pub next_after : ℕ → Option Fragment → ℕ
-next_after next None = next
-next_after next (Some f) = next + 1
-
--- and after an action
-abbrev pub next_by : ℕ → Action → Option Fragment → ℕ
-next_by next (Ask call) given = next
-next_by next FeedAction given = next_after next given
-next_by next (Clock moment) given = next
-next_by next SettleAction given = next
+-- the fragments that are left after an action
+abbrev pub left_by : List Fragment → Action → List Fragment
+left_by left (Ask call) = left
+left_by left FeedAction = drop 1 left
+left_by left (Clock moment) = left
+left_by left SettleAction = left
 
 abbrev pub moment_by : ℕ → Line → ℕ
 moment_by last line = moment_after last line.action
@@ -114,32 +109,31 @@ IsOfOneThread (PassClear track index) = Unit {0}
 IsOfOneThread (WaitForKey track) = Unit {0}
 IsOfOneThread (Settle line) = Unit {0}
 
--- what a play has fed: `next` fragments of the media, and none past the last
-pub record HasFed (media : Media) (next : ℕ) (r : Run) : Type 0 where
+-- what a play has fed: the fragments of the media in order, but for those that are left, and none past the last
+pub record HasFed (media : Media) (left : List Fragment) (r : Run) : Type 0 where
+  pub valid : IsFed media
   pub tracks : r.tracks ≡ media.tracks
   pub feeds : FeedsBegun media.fragments r.history
-  pub within : next ≤ length media.fragments
-  pub passed : next ≤ length (feeds_in r.history)
-  pub left : drop (length (feeds_in r.history)) media.fragments ≡ drop next media.fragments
-  pub samples : fed_samples r.history ≡ sum_by fragment_samples (take next media.fragments)
-  pub bytes : fed_bytes r.history ≡ sum_by fragment_bytes (take next media.fragments)
+  pub left_ : drop (length (feeds_in r.history)) media.fragments ≡ left
+  pub samples : fed_samples r.history + sum_by fragment_samples left ≡ sum_by fragment_samples media.fragments
+  pub bytes : fed_bytes r.history + sum_by fragment_bytes left ≡ sum_by fragment_bytes media.fragments
   pub alone : AllByRecursion IsOfOneThread r.history
   pub delivered : NoneWaits r.history
   pub turns : AreInTurn r.tracks r.history
   pub last : LastAsked r.history
 
 -- a play has gone through the first n lines, in order
-pub record HasGone (script : List Line) (media : Media) (n next : ℕ) (r : Run) : Type 0 where
-  pub fed : HasFed media next r
+pub record HasGone (script : List Line) (media : Media) (n : ℕ) (left : List Fragment) (r : Run) : Type 0 where
+  pub fed : HasFed media left r
   pub lines : lines_in r.history ≡ take n script
   pub above : AllByRecursion IsOfLine (asked_in r.history)
   pub moment : last_moment r.history ≡ moment_of (take n script)
 
--- a play has gone through all lines, and behind them through what follows them up to the next fragment
-pub record HasFollowed (script : List Line) (media : Media) (next : ℕ) (r : Run) : Type 0 where
-  pub fed : HasFed media next r
+-- a play has gone through all lines, and behind them through what follows them up to the fragments that are left
+pub record HasFollowed (script : List Line) (media : Media) (left : List Fragment) (r : Run) : Type 0 where
+  pub fed : HasFed media left r
   pub lines : lines_in r.history ≡ script
   pub before : List Entry
   pub above : AllByRecursion IsOfLine before
-  pub follows : asked_in r.history ++ feed_rest (drop next media.fragments) ≡ before ++ implied (drop (length (feeds_in before)) media.fragments)
+  pub follows : asked_in r.history ++ feed_rest left ≡ before ++ implied (drop (length (feeds_in before)) media.fragments)
   pub rest : AtRest (world r.tracks r.history)

@@ -1,12 +1,13 @@
 // The play of a script and its media on one thread.
-ghost use Rattle.std.specs.Prelude.{◌≡◌, ◌≤◌, OnOk, OnErr, IfOk, slice_get, length};
+ghost use Rattle.std.specs.Prelude.{◌≡◌, OnOk, IfOk, [], slice_get, length, drop};
 ghost use Rattle.eme_types.specs.Fed.{IsFed};
 ghost use Rattle.cdm_state.specs.History.{MayFeedNext};
 ghost use Rattle.output_order.specs.Complete.{IsComplete};
 ghost use Rattle.output_order.specs.Staffed.{IsStaffed};
 ghost use Rattle.cdm_state.specs.Progress.{NoneWaits};
 ghost use Rattle.player_core.specs.Alone.{IsAlone};
-ghost use Rattle.player_core.specs.Course.{Goes, MayGo, entry_of, next_after, next_by, HasGone, HasFollowed};
+ghost use Rattle.eme_types.specs.declared.media.Media.{Media};
+ghost use Rattle.player_core.specs.Course.{Goes, MayGo, entry_of, left_by, HasGone, HasFollowed};
 ghost use Rattle.eme_types.specs.declared.entry.Entry.TheVariants.{Feed as FeedEntry};
 
 use crate::settle::settle_all;
@@ -14,38 +15,19 @@ use cdm_state::{Cdm, moment_is_of_the_last_tick};
 use eme_types::{Copies, Fragment, Media};
 use script_lang::{Action, Line, Script};
 use std::alloc::{AllocError, Global};
-
-/// A copy of the fragment at a place, if there is one.
-fn fragment_at(fragments: &[Fragment], place: usize) -> Result<Option<Fragment>, AllocError>
-    ensures { IfOk result (λ given. given ≡ slice_get fragments.now place) }
-{
-    match fragments.get(place) {
-        Some(fragment) => Ok(Some(fragment.copy()?)),
-        None => Ok(None),
-    }
-}
+use std::collections::VecDeque;
 
 /// Feeds the next fragment, or none past the last.
-fn feed_next(
-    cdm: &mut Cdm,
-    fragments: &[Fragment],
-    next: &mut usize,
-    line: u32,
-) -> Result<(), AllocError>
-    requires within { next.old ≤ length fragments.now }
-    requires may { MayFeedNext cdm.old.tracks cdm.old.history (slice_get fragments.now next.old) }
-    ensures goes { OnOk result (Goes cdm.old cdm.new (FeedEntry line (slice_get fragments.now next.old))) }
-    ensures next { OnOk result (next.new ≡ next_after next.old (slice_get fragments.now next.old)) }
+fn feed_next(cdm: &mut Cdm, left: &mut VecDeque<Fragment>, line: u32) -> Result<(), AllocError>
+    requires { MayFeedNext cdm.old.tracks cdm.old.history (slice_get left.old.items 0) }
+    ensures goes { OnOk result (Goes cdm.old cdm.new (FeedEntry line (slice_get left.old.items 0))) }
+    ensures left { left.new.items ≡ drop 1 left.old.items }
 {
-    let given = fragment_at(fragments, *next)?;
+    let given = left.pop_front();
     match cdm.feed(line, given) {
-        Ok(()) => {}
-        Err(back) => return Err(back.error),
+        Ok(()) => Ok(()),
+        Err(back) => Err(back.error),
     }
-    if *next < fragments.len() {
-        *next += 1;
-    }
-    Ok(())
 }
 
 /// Does what a line asks.
@@ -53,13 +35,11 @@ fn play_line(
     alloc: Global,
     cdm: &mut Cdm,
     line: &Line,
-    fragments: &[Fragment],
-    next: &mut usize,
+    left: &mut VecDeque<Fragment>,
 ) -> Result<(), AllocError>
-    requires within { next.old ≤ length fragments.now }
-    requires may { MayGo cdm.old line.now.action (slice_get fragments.now next.old) }
-    ensures goes { OnOk result (Goes cdm.old cdm.new (entry_of line.now (slice_get fragments.now next.old))) }
-    ensures next { OnOk result (next.new ≡ next_by next.old line.now.action (slice_get fragments.now next.old)) }
+    requires { MayGo cdm.old line.now.action (slice_get left.old.items 0) }
+    ensures goes { OnOk result (Goes cdm.old cdm.new (entry_of line.now (slice_get left.old.items 0))) }
+    ensures left { OnOk result (left.new.items ≡ left_by left.old.items line.now.action) }
 {
     match &line.action {
         Action::Ask(call) => {
@@ -70,7 +50,7 @@ fn play_line(
             }
         }
         Action::Feed => {
-            feed_next(cdm, fragments, next, line.number)?;
+            feed_next(cdm, left, line.number)?;
             Ok(())
         }
         Action::Clock(moment) => {
@@ -89,37 +69,31 @@ fn play_lines(
     alloc: Global,
     cdm: &mut Cdm,
     script: &Script,
-    media: &Media,
-    next: &mut usize,
+    left: &mut VecDeque<Fragment>,
 ) -> Result<(), AllocError>
-    requires fed { IsFed media.now }
-    requires none { HasGone script.now media.now 0 next.old cdm.old }
-    ensures { OnOk result (HasGone script.now media.now (length script.now) next.new cdm.new) }
+    requires { (media : Media) × HasGone script.now media 0 left.old.items cdm.old }
+    ensures { OnOk result ((media : Media) → HasGone script.now media 0 left.old.items cdm.old → HasGone script.now media (length script.now) left.new.items cdm.new) }
 {
     moment_is_of_the_last_tick();
-    let fragments = media.fragments.as_slice();
     for line in script.as_slice() {
-        play_line(alloc, cdm, line, fragments, next)?;
+        play_line(alloc, cdm, line, left)?;
     }
     Ok(())
 }
 
-/// What follows the last line: a settle, and a feed and a settle for each fragment that was not fed.
+/// What follows the last line: a settle, and a feed and a settle for each fragment that is left.
 fn play_rest(
     alloc: Global,
     cdm: &mut Cdm,
     script: &Script,
-    media: &Media,
-    mut next: usize,
+    mut left: VecDeque<Fragment>,
 ) -> Result<(), AllocError>
-    requires fed { IsFed media.now }
-    requires gone { HasGone script.now media.now (length script.now) next cdm.old }
-    ensures { OnOk result (HasFollowed script.now media.now (length media.now.fragments) cdm.new) }
+    requires { (media : Media) × HasGone script.now media (length script.now) left.items cdm.old }
+    ensures { OnOk result ((media : Media) → HasGone script.now media (length script.now) left.items cdm.old → HasFollowed script.now media [] cdm.new) }
 {
-    let fragments = media.fragments.as_slice();
     settle_all(alloc, cdm, 0)?;
-    while next < fragments.len() {
-        feed_next(cdm, fragments, &mut next, 0)?;
+    'rest: while !left.is_empty() {
+        feed_next(cdm, &mut left, 0)?;
         settle_all(alloc, cdm, 0)?;
     }
     Ok(())
@@ -136,9 +110,9 @@ pub fn play_alone(alloc: Global, script: &Script, media: Media) -> Result<Cdm, A
     ensures delivered { IfOk result (λ cdm. NoneWaits cdm.history) }
 {
     let mut cdm = Cdm::new(alloc, &media.tracks)?;
-    let mut next = 0;
-    play_lines(alloc, &mut cdm, script, &media, &mut next)?;
-    play_rest(alloc, &mut cdm, script, &media, next)?;
+    let mut left = VecDeque::from_vec(media.fragments.into_vec());
+    play_lines(alloc, &mut cdm, script, &mut left)?;
+    play_rest(alloc, &mut cdm, script, left)?;
     let _legal = cdm.history();
     Ok(cdm)
 }

@@ -1,6 +1,7 @@
 -- Where auxiliary data stands, sample by sample and run by run.
-use Rattle.std.proofs.Common.{◌≡◌, ℕ, suc, ◌-◌, ◌+◌, ◌≤◌, ◌<◌, List, [], ◌∷◌, ◌++◌, sym, ◌∙◌, append_assoc, arith}
-use Rattle.std.specs.Prelude.{ℤ, pos, ◌+ℤ◌}
+use Rattle.std.proofs.Common.{◌≡◌, ℕ, suc, ◌-◌, ◌+◌, ◌*◌, ◌≤◌, ◌<◌, List, [], ◌∷◌, ◌++◌, sym, ◌∙◌, append_assoc, arith}
+use Rattle.std.specs.Prelude.{ℤ, pos, ◌+ℤ◌, ◌≤ℤ◌}
+use Rattle.std.proofs.lemmas.Int.{ints}
 use Rattle.std.proofs.lemmas.List.{append-nil}
 use Rattle.prot_boxes.specs.declared.saiz.Saiz.{Saiz}
 use Rattle.frag_boxes.specs.declared.records.Trun.{Trun}
@@ -13,6 +14,10 @@ unfolding follow
 one_more s at k end front total lt so_far =
     let e : end - k ≡ suc (end - (k + 1)) = omega arith in
     simp append_assoc (rw e at so_far)
+
+-- each sample has at most 255 bytes of data
+pub near_more : (start at : ℤ) (first k size : ℕ) → size < 256 → first ≤ k → at ≤ℤ (start +ℤ pos (255 * (k - first))) → (at +ℤ pos size) ≤ℤ (start +ℤ pos (255 * ((k + 1) - first)))
+near_more start at first k size small low near = omega (arith, ints, small, low, near)
 
 pub finished : (s : Saiz) (at : ℤ) (k end : ℕ) (front total : List DataRange) → end ≤ k → front ++ follow s at k (end - k) ≡ total → front ≡ total
 unfolding follow

@@ -33,9 +33,6 @@ Same-past i is passed old before le h = record {
 pub Same-now : (items : List SbgpItem) (passed : ℕ) (old : List SbgpItem) (before : ℕ) → Same items passed old before → index_at items passed ≡ index_at old before
 Same-now items passed old before h = let f = h.follow 0 in let a : passed + 0 ≡ passed = omega arith in let b : before + 0 ≡ before = omega arith in rw (a, b) at f
 
-pub Same-next : (items : List SbgpItem) (passed : ℕ) (old : List SbgpItem) (before : ℕ) → Same items passed old before → (m : ℕ) → index_at items ((passed + 1) + m) ≡ index_at old (before + (m + 1))
-Same-next items passed old before h m = let k : (passed + 1) + m ≡ passed + (m + 1) = omega arith in rw k (h.follow (m + 1))
-
 pub Same-end : (passed : ℕ) (old : List SbgpItem) (before : ℕ) → Same [] passed old before → (m : ℕ) → index_at [] (passed + m) ≡ index_at old (before + (m + 1))
 Same-end passed old before h m = none_left _ ∙ sym (none_left _) ∙ h.follow (m + 1)
 

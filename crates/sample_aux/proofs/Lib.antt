@@ -1,12 +1,12 @@
 pub mod InOrder
 pub mod ItemsLeft
 pub mod Passes
+pub mod Near
 pub mod Known
 pub mod Runs
 pub mod Indices
 pub mod Given
 pub mod Following
 pub mod Parts
-pub mod Both
 pub mod Joining
 pub mod Within

@@ -38,6 +38,7 @@ iv_size_of (Some r) = r.group.iv_size
 unfoldable pub by_senc : List (Option SampleProtection) → Found → Result Auxiliary AuxFault
 by_senc rules b = told (senc_at (map iv_size_of rules) b) >>= λ senc. Ok (record { senc = Some b.place; items = senc.items })
 
+-- nothing is read where the count is 0
 abbrev pub unless_zero : ℕ → Result Auxiliary AuxFault → Result (Option Auxiliary) AuxFault
 unless_zero count read = if count == 0 then Ok None else (read >>= λ x. Ok (Some x))
 
@@ -52,9 +53,11 @@ abbrev pub is_of : Scheme → Option (List ℕ) → Bool
 is_of scheme None = true
 is_of scheme (Some kind) = bytes_eq kind (scheme_code scheme)
 
+-- a saiz of the scheme, and its place
 unfoldable pub saiz_of : Scheme → Found → Result (Option UsedSaiz) AuxFault
 saiz_of scheme b = told (saiz_at b) >>= λ s. Ok (if is_of scheme s.kind then Some (record { place = b.place; saiz = s }) else None)
 
+-- a saio of the scheme, and its place
 unfoldable pub saio_of : Scheme → Found → Result (Option UsedSaio) AuxFault
 saio_of scheme b = told (saio_at b) >>= λ s. Ok (if is_of scheme s.kind then Some (record { place = b.place; saio = s }) else None)
 
@@ -73,6 +76,7 @@ used_saiz file scheme traf n = do
   used ← required (fault_at traf.place NoAux) first
   few_sizes n used
 
+-- the used saio: the first of the scheme
 unfoldable pub used_saio : List ℕ → Scheme → Traf → Result UsedSaio AuxFault
 used_saio file scheme traf = do
   first ← first_given (saio_of scheme) (boxes_at file traf.saio)
@@ -92,6 +96,7 @@ unfoldable pub follow : Saiz → ℤ → ℕ → ℕ → List DataRange
 follow s at k zero = []
 follow s at k (suc n) = record { at = at; size = size_at s k } ∷ follow s (at +ℤ pos (size_at s k)) (k + 1) n
 
+-- the offset of a run
 abbrev pub offset_of : List ℕ → ℕ → ℕ
 offset_of offsets i = unwrap_or (slice_get offsets i) 0
 
@@ -116,6 +121,7 @@ exactly e (Err k) = Err e
 abbrev pub data_of : AuxFault → ℕ → List ℕ → Result SencItem AuxFault
 data_of e iv_size bytes = exactly e (item (not (length bytes == iv_size)) iv_size bytes)
 
+-- what auxiliary data says of a sample of which it says nothing
 abbrev pub nothing : SencItem
 nothing = record { iv = None; subs = [] }
 
@@ -126,15 +132,19 @@ data_at file sizes offsets (Some r) range =
     if is_outside (length file) range.at range.size then Err (fault_at offsets OffsetPastEnd)
     else data_of (fault_at sizes AuxSize) r.group.iv_size (part_of file (unsigned_abs range.at) range.size)
 
+-- what protects sample k
 abbrev pub rule_of : List (Option SampleProtection) → ℕ → Option SampleProtection
 rule_of rules k = unwrap_or (slice_get rules k) None
 
+-- where the data of sample k stands
 abbrev pub range_of : List DataRange → ℕ → DataRange
 range_of ranges k = unwrap_or (slice_get ranges k) (record { at = pos 0; size = 0 })
 
+-- what the data of each sample says
 unfoldable pub by_ranges : List ℕ → ℕ → ℕ → List (Option SampleProtection) → List DataRange → Result (List SencItem) AuxFault
 by_ranges file sizes offsets rules ranges = each_number (λ k. data_at file sizes offsets (rule_of rules k) (range_of ranges k)) (length rules)
 
+-- the same, found by the used saiz and the used saio
 unfoldable pub by_sizes : List ℕ → Scheme → Traf → ℤ → List (Option SampleProtection) → Result Auxiliary AuxFault
 by_sizes file scheme traf base rules = do
   sizes ← used_saiz file scheme traf (length rules)
@@ -144,9 +154,11 @@ by_sizes file scheme traf base rules = do
 
 -- ---- which of them
 
+-- without auxiliary data
 abbrev pub no_data : Auxiliary
 no_data = record { senc = None; items = [] }
 
+-- what the used senc says, else saiz and saio, where the track fragment has a saiz
 abbrev pub by_used : List ℕ → Sinf → Traf → ℤ → List (Option SampleProtection) → Option Auxiliary → Result Auxiliary AuxFault
 by_used file entry traf base rules (Some auxiliary) = Ok auxiliary
 by_used file entry traf base rules None = if length traf.saiz == 0 then Ok no_data else by_sizes file entry.scheme traf base rules

@@ -29,10 +29,12 @@ abbrev pub passed_over : ProtFault → ProtKind → Result (Option Sinf) AuxFaul
 passed_over f prot.Scheme = Ok None
 passed_over f _ = Err (aux_fault f)
 
+-- a sinf that is read, or passed over
 abbrev pub if_known : Result Sinf ProtFault → Result (Option Sinf) AuxFault
 if_known (Ok s) = Ok (Some s)
 if_known (Err f) = passed_over f f.kind
 
+-- a sinf of a scheme that is known (ISO/IEC 14496-12 section 8.12.1)
 unfoldable pub known_sinf : Found → Result (Option Sinf) AuxFault
 known_sinf b = if_known (sinf_at b)
 
@@ -48,9 +50,11 @@ entry_protection file entry = first_given known_sinf (boxes_at file entry.sinfs)
 
 -- ---- group descriptions
 
+-- a sgpd of type seig
 unfoldable pub told_groups : Found → Result (Option Sgpd) AuxFault
 told_groups b = told (sgpd_at b)
 
+-- the entries of the used sgpd; none without one
 abbrev pub entries_or_none : Option Sgpd → List Seig
 entries_or_none None = []
 entries_or_none (Some s) = s.entries
@@ -61,6 +65,7 @@ groups_in file spans = first_given told_groups (boxes_at file spans) >>= λ used
 
 -- ---- the movie
 
+-- a sample entry whose protection is not refused
 abbrev pub entry_passes : List ℕ → SampleEntry → Result (Unit {0}) AuxFault
 entry_passes file entry = entry_protection file entry >>= λ used. Ok tt
 

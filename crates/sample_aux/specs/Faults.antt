@@ -10,6 +10,7 @@ use Rattle.sample_aux.specs.declared.fault.AuxKind.{AuxKind}
 use Rattle.sample_aux.specs.declared.fault.AuxKind.TheVariants as aux
 use Rattle.sample_aux.specs.declared.fault.AuxFault.{AuxFault}
 
+-- a broken rule at a place
 abbrev pub fault_at : ℕ → AuxKind → AuxFault
 fault_at place kind = record { place = place; kind = kind }
 
@@ -27,6 +28,7 @@ aux_kind prot.NoTenc = aux.NoTenc
 aux_kind prot.CountDiffers = aux.CountDiffers
 aux_kind prot.OutOfMemory = aux.OutOfMemory
 
+-- a broken rule of a protection box, at its place
 abbrev pub aux_fault : ProtFault → AuxFault
 aux_fault f = fault_at f.place (aux_kind f.kind)
 

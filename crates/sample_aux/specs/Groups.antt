@@ -38,9 +38,11 @@ group_of own movie index =
     else if index == 0x10000 then None
     else slice_get movie (index - 1)
 
+-- what a tenc says, as a group would say it
 abbrev pub fields_of : Tenc → Seig
 fields_of t = record { crypt = t.crypt; skip = t.skip; protected = t.protected; iv_size = t.iv_size; kid = t.kid; constant = t.constant }
 
+-- nothing protects the samples of a group that is not protected
 abbrev pub if_protected : Scheme → Seig → Option SampleProtection
 if_protected scheme g = if g.protected then Some (record { scheme = scheme; group = g }) else None
 
@@ -66,10 +68,12 @@ rules_at g entry own movie n = each_number (λ k. rule_at g.place entry own movi
 
 -- ---- the boxes of a track fragment
 
+-- a sbgp of type seig, and its place
 abbrev pub with_place : ℕ → Option Sbgp → Option Grouping
 with_place place None = None
 with_place place (Some s) = Some (record { place = place; items = s.entries })
 
+-- the same, read of a box
 unfoldable pub grouping_at : Found → Result (Option Grouping) AuxFault
 grouping_at b = told (sbgp_at b) >>= λ s. Ok (with_place b.place s)
 
@@ -94,6 +98,7 @@ abbrev pub is_memory : AuxKind → Bool
 is_memory OutOfMemory = true
 is_memory _ = false
 
+-- the refusal that is chosen of two
 abbrev pub IsEarlier : AuxFault → AuxFault → AuxFault → Type 0
 IsEarlier e f chosen = (chosen.kind ≡ OutOfMemory) ⊎ ((is_memory e.kind ≡ false) × ((is_memory f.kind ≡ false) × (chosen ≡ (if nat_lt f.place e.place then f else e))))
 

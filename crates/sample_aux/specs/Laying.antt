@@ -24,6 +24,7 @@ abbrev pub base_in : Option ℕ → Bool → ℕ → ℤ → ℤ
 base_in (Some base) at_moof start end = pos base
 base_in None at_moof start end = if at_moof then pos start else end
 
+-- the same, by the tfhd of the track fragment
 abbrev pub base_of : ℕ → Tfhd → ℤ → ℤ
 base_of start h end = base_in h.base (has 0x20000 h.flags) start end
 
@@ -34,6 +35,7 @@ abbrev pub size_in : Option RunItem → ℕ → ℕ
 size_in None default = default
 size_in (Some i) default = unwrap_or i.size default
 
+-- the size of sample k of a run
 abbrev pub size_of : Trun → ℕ → ℕ → ℕ
 size_of run default k = size_in (slice_get run.items k) default
 
@@ -71,6 +73,7 @@ abbrev pub begin_at : ℤ → Option ℤ → ℤ → ℤ
 begin_at base None at = at
 begin_at base (Some offset) at = base +ℤ offset
 
+-- the cursor where a run begins
 abbrev pub begun : ℤ → Trun → DataCursor → DataCursor
 begun base run l = record l { at = begin_at base run.offset l.at }
 

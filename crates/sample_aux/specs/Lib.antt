@@ -2,6 +2,7 @@ pub mod Faults
 pub mod Spans
 pub mod InOrder
 pub mod Checked
+pub mod Near
 pub mod Laying
 pub mod Groups
 pub mod Counting

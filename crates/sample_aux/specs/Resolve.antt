@@ -56,23 +56,29 @@ protect_of place (Some r) item =
     required (fault_at place NoAux) (iv_of item.iv r.group.constant)
     >>= λ iv. Ok (Some (record { scheme = r.scheme; kid = r.group.kid; iv = iv; crypt = r.group.crypt; skip = r.group.skip; subs = item.subs }))
 
+-- what auxiliary data says of sample k; nothing past its end
 abbrev pub item_of : List SencItem → ℕ → SencItem
 item_of items k = unwrap_or (slice_get items k) nothing
 
+-- where sample k stands
 abbrev pub place_of : List SampleRange → ℕ → SampleRange
 place_of ranges k = unwrap_or (slice_get ranges k) (record { place = 0; size = 0 })
 
+-- the bytes of a sample
 abbrev pub bytes_at : List ℕ → SampleRange → List ℕ
 bytes_at file range = part_of file range.place range.size
 
+-- a sample with its protection
 unfoldable pub sample_at : List ℕ → ℕ → SampleRange → Option SampleProtection → SencItem → Result EncSample AuxFault
 sample_at file place range rule item = protect_of place rule item >>= λ protect. Ok (record { protect = protect; bytes = bytes_at file range })
 
+-- all samples, in order
 unfoldable pub samples_at : List ℕ → ℕ → List SampleRange → List (Option SampleProtection) → List SencItem → Result (List EncSample) AuxFault
 samples_at file place ranges rules items = each_number (λ k. sample_at file place (place_of ranges k) (rule_of rules k) (item_of items k)) (length ranges)
 
 -- ---- the checks of a whole sample
 
+-- a sample that has subsamples
 abbrev pub has_subs : Option Protect → Bool
 has_subs None = false
 has_subs (Some p) = if length p.subs == 0 then false else true
@@ -81,10 +87,12 @@ has_subs (Some p) = if length p.subs == 0 then false else true
 abbrev pub check_place : Option ℕ → ℕ → EncSample → ℕ
 check_place senc traf s = if has_subs s.protect then unwrap_or senc traf else traf
 
+-- the broken rule of a sample, at a place
 abbrev pub as_fault : ℕ → Result (Unit {0}) SampleFault → Result (Unit {0}) AuxFault
 as_fault place (Ok passed) = Ok tt
 as_fault place (Err f) = Err (fault_at place (sample_kind f))
 
+-- the checks of a whole sample
 abbrev pub sample_passes : Option ℕ → ℕ → EncSample → Result (Unit {0}) AuxFault
 sample_passes senc traf s = as_fault (check_place senc traf s) (first_fault s)
 
@@ -124,6 +132,7 @@ abbrev pub met : TrackPart → Option TrackPart → TrackPart × Option TrackPar
 met q None = (q, None)
 met q (Some p) = if q.track == p.track then (record q { samples = q.samples ++ p.samples }, None) else (q, Some p)
 
+-- a part put behind the others, or joined to that of its track
 abbrev pub put_part : List TrackPart → TrackPart → List TrackPart
 put_part [] p = p ∷ []
 put_part (q ∷ qs) p = if q.track == p.track then record q { samples = q.samples ++ p.samples } ∷ qs else q ∷ put_part qs p
@@ -138,6 +147,7 @@ abbrev pub joined : List TrackPart → List TrackPart → List TrackPart
 joined parts [] = parts
 joined parts (p ∷ ps) = joined (put_part parts p) ps
 
+-- the parts of all track fragments, joined
 abbrev pub all_joined : List TrackPart → Result (List TrackPart) AuxFault → Result (List TrackPart) AuxFault
 all_joined parts (Ok more) = Ok (joined parts more)
 all_joined parts (Err e) = Err e

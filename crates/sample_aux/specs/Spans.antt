@@ -12,6 +12,7 @@ part_of file place len = take len (drop place file)
 abbrev pub box_at : List ℕ → Span → Found
 box_at file s = record { kind = 0 ∷ 0 ∷ 0 ∷ 0 ∷ []; place = s.place; body = part_of file s.body_place s.len; body_place = s.body_place }
 
+-- the boxes of these spans, in order
 abbrev pub boxes_at : List ℕ → List Span → List Found
 boxes_at file spans = map (λ s. box_at file s) spans
 
@@ -26,6 +27,7 @@ abbrev pub or_else : {E A : Type 0} → Result (Option A) E → Option A → Res
 or_else others None = others
 or_else others (Some x) = Ok (Some x)
 
+-- what the first box gives that gives something
 unfoldable pub first_given : {E A : Type 0} → (Found → Result (Option A) E) → List Found → Result (Option A) E
 first_given read [] = Ok None
 first_given read (b ∷ bs) = read b >>= or_else (first_given read bs)

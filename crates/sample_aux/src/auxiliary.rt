@@ -1,9 +1,10 @@
 // The IVs and subsamples of the samples of a track fragment.
-ghost use Rattle.std.specs.Prelude.{◌≡◌, ◌==◌, ◌||◌, map, length, IfOk};
+ghost use Rattle.std.specs.Prelude.{◌≡◌, ◌^◌, ◌==◌, ◌||◌, map, length, IfOk};
 ghost use Rattle.iso_boxes.specs.Walk.{found};
 ghost use Rattle.prot_boxes.specs.Answers.{Reads as ReadsKind};
 ghost use Rattle.prot_boxes.specs.Sinf.{scheme_code};
 ghost use Rattle.sample_aux.specs.Faults.{Gives};
+ghost use Rattle.sample_aux.specs.Near.{IsNear};
 ghost use Rattle.sample_aux.specs.Counting.{count_fields};
 ghost use Rattle.sample_aux.specs.Auxiliary.{iv_size_of, by_senc, senc_of, is_of, saiz_of, saio_of, few_sizes, suits_runs, used_saiz, used_saio, by_sizes, by_used, auxiliary_of};
 
@@ -234,6 +235,7 @@ fn by_sizes(
     base: DataCursor,
     rules: &[Option<SampleProtection>],
 ) -> Result<Auxiliary, AuxFault>
+    requires { IsNear (2 ^ 99) base.at }
     ensures { Gives (λ x. x) result (by_sizes file.now scheme traf.now base.at rules.now) }
 {
     let sizes = used_saiz(alloc, file, scheme, traf, rules.len())?;
@@ -267,6 +269,7 @@ pub fn auxiliary_of(
     base: DataCursor,
     rules: &[Option<SampleProtection>],
 ) -> Result<Auxiliary, AuxFault>
+    requires { IsNear (2 ^ 99) base.at }
     ensures { Gives (λ x. x) result (auxiliary_of file.now entry traf.now base.at rules.now) }
 {
     let Some(entry) = entry else {

@@ -1,9 +1,10 @@
 // A movie fragment resolved.
-ghost use Rattle.std.specs.Prelude.{◌≡◌, ◌≤◌, ◌++◌, [], ◌∷◌, filter, IfOk, OnOk, IsTrue};
+ghost use Rattle.std.specs.Prelude.{◌≡◌, ◌^◌, ◌≤◌, ◌++◌, [], ◌∷◌, filter, IfOk, OnOk, IsTrue};
 ghost use Rattle.std.specs.Option.{option_map};
 ghost use Rattle.eme_types.specs.Fed.{has_samples, are_known, is_joined, are_well_formed, fragment_samples, fragment_bytes};
 ghost use Rattle.frag_boxes.specs.Tracks.{track_ids};
 ghost use Rattle.sample_aux.specs.Faults.{Gives};
+ghost use Rattle.sample_aux.specs.Near.{IsNear, EndsNear};
 ghost use Rattle.sample_aux.specs.Resolve.{track_with, entry_with, traf_resolved, trafs_resolved, met, put_part, put_left, all_joined, fragment_of, known_resolved, resolved};
 ghost use Rattle.sample_aux.specs.Checked.{protected_ids};
 
@@ -55,7 +56,9 @@ fn resolve_traf(
     cursor: DataCursor,
     traf: &Traf,
 ) -> Result<(TrackPart, DataCursor), AuxFault>
-    ensures { Gives (λ x. x) result (traf_resolved file.now known.now start cursor traf.now) }
+    requires { IsNear (2 ^ 98) cursor.at }
+    ensures gives { Gives (λ x. x) result (traf_resolved file.now known.now start cursor traf.now) }
+    ensures near { IfOk result (λ x. EndsNear cursor.at x.1.at) }
 {
     let fault = |kind| AuxFault {
         place: traf.tfhd.place,
@@ -157,6 +160,7 @@ fn resolve_trafs(
     begin: DataCursor,
     trafs: &[Traf],
 ) -> Result<Vec<TrackPart>, AuxFault>
+    requires { IsNear (2 ^ 64) begin.at }
     ensures { Gives (λ x. x.items) result (all_joined [] (trafs_resolved file.now known.now start begin trafs.now)) }
 {
     let mut parts = Vec::new(alloc);

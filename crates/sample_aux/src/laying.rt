@@ -1,13 +1,14 @@
 // Where samples lie.
-ghost use Rattle.std.specs.Prelude.{◌≡◌, ◌+◌, ◌-◌, pos, ◌+ℤ◌, ◌≤ℤ◌, ◌≤◌, IfOk, false};
+ghost use Rattle.std.specs.Prelude.{◌≡◌, ℕ, ◌+◌, ◌-◌, ◌^◌, pos, ◌+ℤ◌, ◌≤ℤ◌, ◌≤◌, IfOk, false};
 ghost use Rattle.sample_aux.specs.Faults.{Gives};
 ghost use Rattle.sample_aux.specs.InOrder.{in_order, learnt};
+ghost use Rattle.sample_aux.specs.Near.{IsNear, StaysNear, EndsNear};
 ghost use Rattle.sample_aux.specs.Laying.{is_outside, base_of, size_of, range_at, after, counted, run_at, run_laid, begun, runs_laid};
 
 use crate::fault::{AuxFault, AuxKind};
 use eme_types::Items;
 use frag_boxes::{Tfhd, Trun};
-use std::alloc::{AllocError, Global};
+use std::alloc::Global;
 
 /// The place and the size of a sample, in bytes.
 #[derive(Clone, Copy, Debug)]
@@ -26,16 +27,6 @@ pub struct DataCursor {
     pub bytes: u64,
 }
 
-/// So much behind a place. What leaves 128 bits, which no file reaches, is answered as want of memory.
-pub fn moved(at: i128, by: i128) -> Result<i128, AllocError>
-    ensures { IfOk result (λ x. x ≡ at +ℤ by) }
-{
-    match at.checked_add(by) {
-        Some(x) => Ok(x),
-        None => Err(AllocError),
-    }
-}
-
 /// Whether data is not whole inside a file of this length.
 pub fn is_outside(end: u64, at: i128, size: u32) -> bool
     ensures value { result ≡ is_outside end at size }
@@ -50,7 +41,8 @@ pub fn is_outside(end: u64, at: i128, size: u32) -> bool
 
 /// Where the offsets of a track fragment's runs count from, behind the data that ends at `cursor`.
 pub fn base_of(start: u64, tfhd: &Tfhd, cursor: DataCursor) -> DataCursor
-    ensures { result ≡ record cursor { at = base_of start tfhd.now cursor.at } }
+    ensures value { result ≡ record cursor { at = base_of start tfhd.now cursor.at } }
+    ensures near { StaysNear cursor.at result.at }
 {
     let at = match tfhd.base {
         Some(base) => i128::from(base),
@@ -76,7 +68,7 @@ fn size_of(run: &Trun, default: u32, k: u32) -> u32
 
 #[tactic(auto, unfolding(crate::specs::Laying::range_at))]
 fn range_at(end: u64, place: u64, cursor: DataCursor, size: u32) -> Result<SampleRange, AuxFault>
-    ensures gives { Gives (λ x. x) result (range_at end place cursor size) }
+    ensures value { result ≡ range_at end place cursor size }
     ensures size { IfOk result (λ x. (x.size ≡ size) × ((cursor.at +ℤ pos size) ≤ℤ pos end) × (size ≤ cursor.bytes)) }
 {
     if cursor.bytes < u64::from(size) {
@@ -118,6 +110,7 @@ fn ranges_of(
 ) -> Result<(SampleRanges, DataCursor), AuxFault>
     ensures gives { Gives (λ x. x.0) result (in_order (λ known k. range_at end run.now.place known (size_of run.now default k)) after start 0 run.now.count) }
     ensures left { IfOk result (λ x. x.1 ≡ learnt after start x.0) }
+    ensures near { IfOk result (λ x. StaysNear start.at x.1.at) }
 {
     let mut ranges = Items::new(alloc);
     let mut cursor = start;
@@ -140,6 +133,7 @@ fn run_at(
 ) -> Result<(SampleRanges, DataCursor), AuxFault>
     ensures gives { Gives (λ x. x.0) result (run_at end default cursor run.now) }
     ensures left { IfOk result (λ x. x.1 ≡ learnt after (counted run.now cursor) x.0) }
+    ensures near { IfOk result (λ x. StaysNear cursor.at x.1.at) }
 {
     if cursor.samples < run.count {
         return Err(AuxFault {
@@ -162,20 +156,23 @@ fn run_laid(
     cursor: DataCursor,
     run: &Trun,
 ) -> Result<(SampleRanges, DataCursor), AuxFault>
-    ensures { Gives (λ x. x) result (run_laid end default cursor run.now) }
+    ensures gives { Gives (λ x. x) result (run_laid end default cursor run.now) }
+    ensures near { IfOk result (λ x. StaysNear cursor.at x.1.at) }
 {
     run_at(alloc, end, default, cursor, run)
 }
 
-fn begun(base: DataCursor, run: &Trun, cursor: DataCursor) -> Result<DataCursor, AllocError>
-    ensures { IfOk result (λ x. x ≡ begun base.at run.now cursor) }
+fn begun(base: DataCursor, run: &Trun, cursor: DataCursor) -> DataCursor
+    requires { IsNear (2 ^ 99) base.at }
+    ensures value { result ≡ begun base.at run.now cursor }
+    ensures near { (b : ℕ) → IsNear b base.at → IsNear (b + 2 ^ 32) cursor.at → IsNear (b + 2 ^ 32) result.at }
 {
     match run.offset {
-        Some(offset) => {
-            let at = moved(base.at, i128::from(offset))?;
-            Ok(DataCursor { at, ..cursor })
-        }
-        None => Ok(cursor),
+        Some(offset) => DataCursor {
+            at: base.at + i128::from(offset),
+            ..cursor
+        },
+        None => cursor,
     }
 }
 
@@ -187,12 +184,14 @@ pub fn runs_laid(
     base: DataCursor,
     runs: &[Trun],
 ) -> Result<(SampleRanges, DataCursor), AuxFault>
-    ensures { Gives (λ x. x) result (runs_laid end default base.at base runs.now) }
+    requires { IsNear (2 ^ 99) base.at }
+    ensures gives { Gives (λ x. x) result (runs_laid end default base.at base runs.now) }
+    ensures near { IfOk result (λ x. EndsNear base.at x.1.at) }
 {
     let mut all = Items::new(alloc);
     let mut cursor = base;
     for run in runs {
-        let begin = begun(base, run, cursor)?;
+        let begin = begun(base, run, cursor);
         let (ranges, next) = run_laid(alloc, end, default, begin, run)?;
         all.extend_from_slice(ranges.as_slice())?;
         cursor = next;

@@ -1,12 +1,13 @@
 // The auxiliary data of one sample, and where it stands.
-ghost use Rattle.std.specs.Prelude.{◌≡◌, pos, ◌+ℤ◌, ◌+◌, ◌-◌, IfOk};
+ghost use Rattle.std.specs.Prelude.{◌≡◌, pos, ◌+ℤ◌, ◌≤ℤ◌, ◌+◌, ◌-◌, ◌^◌, ◌≤◌, IfOk};
+ghost use Rattle.sample_aux.specs.Near.{IsNear};
 ghost use Rattle.sample_aux.specs.declared.fault.AuxKind.TheVariants.{AuxSize};
 ghost use Rattle.sample_aux.specs.Faults.{fault_at, Gives};
 ghost use Rattle.sample_aux.specs.Auxiliary.{size_at, offset_of, follow, by_run, data_ranges, data_of, data_at, rule_of, range_of, by_ranges};
 
 use crate::fault::{AuxFault, AuxKind};
 use crate::groups::SampleProtection;
-use crate::laying::{DataCursor, is_outside, moved};
+use crate::laying::{DataCursor, is_outside};
 use crate::spans::part_of;
 use eme_types::Items;
 use frag_boxes::Trun;
@@ -25,16 +26,16 @@ pub type DataRanges = Items<DataRange>;
 // ---- where it stands
 
 /// The size of a sample's data: 0 past the count.
-fn size_at(saiz: &Saiz, k: usize) -> u8
+fn size_at(saiz: &Saiz, k: u128) -> u8
     ensures { result ≡ size_at saiz.now k }
 {
-    if k >= saiz.count as usize {
+    if k >= u128::from(saiz.count) {
         return 0;
     }
     if saiz.default_size != 0 {
         return saiz.default_size;
     }
-    match saiz.sizes.as_slice().get(k) {
+    match saiz.sizes.as_slice().get(k as usize) {
         Some(size) => *size,
         None => 0,
     }
@@ -51,11 +52,14 @@ fn data_from(cursor: DataCursor, size: u8) -> DataRange
 }
 
 /// The cursor behind the data of a sample.
-fn behind(cursor: DataCursor, size: u8) -> Result<DataCursor, AllocError>
-    ensures { IfOk result (λ x. x ≡ record cursor { at = cursor.at +ℤ pos size }) }
+fn behind(cursor: DataCursor, size: u8) -> DataCursor
+    requires { cursor.at ≤ℤ pos (2 ^ 101) }
+    ensures { result ≡ record cursor { at = cursor.at +ℤ pos size } }
 {
-    let at = moved(cursor.at, i128::from(size))?;
-    Ok(DataCursor { at, ..cursor })
+    DataCursor {
+        at: cursor.at + i128::from(size),
+        ..cursor
+    }
 }
 
 /// The data of the samples from `first` to before `end`, which follow each other.
@@ -63,9 +67,11 @@ fn follow(
     alloc: Global,
     saiz: &Saiz,
     start: DataCursor,
-    first: usize,
-    end: usize,
+    first: u128,
+    end: u128,
 ) -> Result<DataRanges, AllocError>
+    requires near { start.at ≤ℤ pos (2 ^ 100) }
+    requires few { end ≤ first + 2 ^ 64 }
     ensures { IfOk result (λ x. x ≡ follow saiz.now start.at first (end - first)) }
 {
     let mut ranges = Items::new(alloc);
@@ -74,8 +80,7 @@ fn follow(
         let size = size_at(saiz, k);
         let range = data_from(cursor, size);
         ranges.push(range)?;
-        let next = behind(cursor, size)?;
-        cursor = next;
+        cursor = behind(cursor, size);
     }
     Ok(ranges)
 }
@@ -95,23 +100,18 @@ fn follow_from(
     saiz: &Saiz,
     base: DataCursor,
     offset: u64,
-    first: usize,
-    end: usize,
+    first: u128,
+    end: u128,
 ) -> Result<DataRanges, AllocError>
+    requires near { IsNear (2 ^ 99) base.at }
+    requires few { end ≤ first + 2 ^ 64 }
     ensures { IfOk result (λ x. x ≡ follow saiz.now (base.at +ℤ pos offset) first (end - first)) }
 {
-    let at = moved(base.at, i128::from(offset))?;
-    follow(alloc, saiz, DataCursor { at, ..base }, first, end)
-}
-
-/// The number behind so many samples from `first` on.
-fn counted_to(first: usize, count: u32) -> Result<usize, AllocError>
-    ensures { IfOk result (λ x. x ≡ first + count) }
-{
-    match first.checked_add(count as usize) {
-        Some(end) => Ok(end),
-        None => Err(AllocError),
-    }
+    let start = DataCursor {
+        at: base.at + i128::from(offset),
+        ..base
+    };
+    follow(alloc, saiz, start, first, end)
 }
 
 /// The data of the samples of all runs, where each run has its own offset.
@@ -122,13 +122,14 @@ fn by_run(
     offsets: &[u64],
     runs: &[Trun],
 ) -> Result<DataRanges, AllocError>
+    requires { IsNear (2 ^ 99) base.at }
     ensures { IfOk result (λ x. x ≡ by_run saiz.now base.at offsets.now 0 0 runs.now) }
 {
     let mut all = Items::new(alloc);
-    let mut first = 0usize;
+    let mut first = 0u128;
     for i in 0..runs.len() {
         let run = &runs[i];
-        let end = counted_to(first, run.count)?;
+        let end = first + u128::from(run.count);
         let offset = offset_of(offsets, i);
         let ranges = follow_from(alloc, saiz, base, offset, first, end)?;
         all.extend_from_slice(ranges.as_slice())?;
@@ -146,10 +147,11 @@ pub fn data_ranges(
     runs: &[Trun],
     n: usize,
 ) -> Result<DataRanges, AllocError>
+    requires { IsNear (2 ^ 99) base.at }
     ensures { IfOk result (λ x. x ≡ data_ranges saiz.now base.at offsets.now runs.now n) }
 {
     if offsets.len() == 1 {
-        follow_from(alloc, saiz, base, offset_of(offsets, 0), 0, n)
+        follow_from(alloc, saiz, base, offset_of(offsets, 0), 0, n as u128)
     } else {
         by_run(alloc, saiz, base, offsets, runs)
     }

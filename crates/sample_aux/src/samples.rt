@@ -1,8 +1,9 @@
 // The samples of a track fragment.
-ghost use Rattle.std.specs.Prelude.{◌≡◌, drop, length, IfOk};
+ghost use Rattle.std.specs.Prelude.{◌≡◌, ◌^◌, drop, length, IfOk};
 ghost use Rattle.std.specs.Vec.Iter.{into_iter_items, into_iter_len};
 ghost use Rattle.sample_aux.specs.Faults.{Gives};
 ghost use Rattle.sample_aux.specs.InOrder.{each_passes};
+ghost use Rattle.sample_aux.specs.Near.{IsNear};
 ghost use Rattle.sample_aux.specs.Resolve.{iv_of, protect_of, item_of, place_of, sample_at, samples_at, has_subs, check_place, sample_passes, samples_of};
 
 use crate::auxiliary::{Auxiliary, auxiliary_of};
@@ -179,6 +180,7 @@ pub fn samples_of(
     ranges: &[SampleRange],
     protection: &Protection,
 ) -> Result<Samples, AuxFault>
+    requires { IsNear (2 ^ 99) base.at }
     ensures { Gives (λ x. x) result (samples_of file.now traf.now base.at ranges.now protection.now) }
 {
     let rules = protection.rules.as_slice();

@@ -10,6 +10,7 @@ use Rattle.eme_types.specs.declared.sample.Protect.{Protect}
 use Rattle.pattern_map.specs.declared.range.ByteRange.{ByteRange}
 use Rattle.pattern_map.specs.ByteClasses.{ByteClass, Protected, class_in, protected_class}
 use Rattle.pattern_map.specs.Coverage.{IsLongestIn, IsLongest, IsRange, Cover}
+use Rattle.ctr_cbc.proofs.StreamLemmas.{before, inside, after}
 use Rattle.sample_crypt.specs.Decryption.{opened_byte}
 
 -- the class of byte i
@@ -36,15 +37,6 @@ pub record Opened (key : List ℕ) (p : Protect) (was : List ℕ) (start : ℕ) 
 pub opened_none : (key : List ℕ) (p : Protect) (was : List ℕ) → Opened key p was 0 was
 opened_none key p was = record { long = refl; below = λ i lt. absurd (omega arith); above = λ i le. refl }
 
-put_before : (a n : ℕ) (xs ys : List ℕ) (k : ℕ) → a ≤ length xs → k < a → get_or (put_mid a n xs ys) k 0 ≡ get_or xs k 0
-put_before a n xs ys k le lt = search (rules, places)
-
-put_inside : (a n : ℕ) (xs ys : List ℕ) (k j : ℕ) → a ≤ length xs → length ys ≡ n → j < n → k ≡ a + j → get_or (put_mid a n xs ys) k 0 ≡ get_or ys j 0
-put_inside a n xs ys k j le len lt e = rw e (search (rules, places))
-
-put_after : (a n : ℕ) (xs ys : List ℕ) (k : ℕ) → a ≤ length xs → length ys ≡ n → a + n ≤ k → get_or (put_mid a n xs ys) k 0 ≡ get_or xs k 0
-put_after a n xs ys k le len past = search (rules, places)
-
 put_length : (a n : ℕ) (xs ys : List ℕ) → a + n ≤ length xs → length ys ≡ n → length (put_mid a n xs ys) ≡ length xs
 put_length a n xs ys le len = search (rules, places)
 
@@ -61,15 +53,15 @@ opened_more key p was start next r bytes ys so_far is len each =
     record {
       long = put_length r.from (r.to - r.from) bytes ys (omega arith) len ∙ long;
       below = λ i lt. elim (cases_lt i r.from) [
-        | inl before ↦ put_before r.from (r.to - r.from) bytes ys i (omega arith) before ∙ elim (cases_lt i start) [
+        | inl lower ↦ before r.from (r.to - r.from) bytes ys i (omega arith) lower ∙ elim (cases_lt i start) [
           | inl done ↦ so_far.below i done
-          | inr left ↦ so_far.above i left ∙ rw (is.before i left before) refl
+          | inr left ↦ so_far.above i left ∙ rw (is.before i left lower) refl
         ]
         | inr past ↦
             let there : r.from + (i - r.from) ≡ i = omega arith in
-            put_inside r.from (r.to - r.from) bytes ys i (i - r.from) (omega arith) len (omega arith) (sym there) ∙ rw there at (each (i - r.from) (omega arith))
+            inside r.from (r.to - r.from) bytes ys i (i - r.from) (omega arith) len (omega arith) (sym there) ∙ rw there at (each (i - r.from) (omega arith))
       ];
-      above = λ i le. put_after r.from (r.to - r.from) bytes ys i (omega arith) len (omega arith) ∙ so_far.above i (omega arith);
+      above = λ i le. after r.from (r.to - r.from) bytes ys i (omega arith) len (omega arith) ∙ so_far.above i (omega arith);
     }
 
 -- all ranges are opened

@@ -10,6 +10,7 @@ use Rattle.aes128.specs.InverseCipher.{inv_cipher}
 use Rattle.ctr_cbc.specs.KeyStream.{stream_byte}
 use Rattle.pattern_map.specs.ByteClasses.{ByteClass, Clear, Protected, Block, protected_class, block_place}
 
+-- the bytes of an IV
 abbrev pub iv_bytes : Iv → List ℕ
 iv_bytes (Eight bytes) = bytes
 iv_bytes (Sixteen bytes) = bytes
@@ -36,5 +37,6 @@ decryption_of key None bytes = bytes
 decryption_of key (Some p) bytes =
     map (λ i. opened_byte key p bytes i (protected_class p.scheme p (length bytes) i)) (range_with_len 0 (length bytes))
 
+-- the bytes of a sample, opened with a key
 abbrev pub decryption : EncSample → KeyBytes → List ℕ
 decryption sample key = decryption_of key.bytes sample.protect sample.bytes

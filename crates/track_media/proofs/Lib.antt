@@ -1,5 +1,4 @@
-pub mod PieceLemmas
-pub mod NumberLemmas
+pub mod SubsampleLemmas
 pub mod GatheringLemmas
 pub mod SectionLemmas
 pub mod Standing

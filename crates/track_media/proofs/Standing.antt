@@ -18,7 +18,7 @@ use Rattle.track_media.specs.declared.line.Known.{Known}
 use Rattle.track_media.specs.ListLine.{Fits, line_in}
 use Rattle.track_media.specs.declared.kind.MediaFault.{MediaFault}
 use Rattle.track_media.specs.SampleList.{tracks_of, inits_of, samples_of, track_samples, is_fragment, sections, part_of, fragment_of, media_from, known_from, lines_from, placed, list_media, ◌>>=◌}
-use Rattle.track_media.specs.Text.{lines_of}
+use Rattle.text_words.specs.Lines.{lines_of}
 use Rattle.track_media.specs.Gathering.{Gathering, added, finished, pushed, with_sample, open_fragment, all_fragments, fragments_at, nothing}
 use Rattle.track_media.proofs.SectionLemmas.{tracks_of-append, inits_of-append, samples_of-append, track_samples-append, grown, sections_grown, sections_begun, grown_last, begun_at_end}
 

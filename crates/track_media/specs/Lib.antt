@@ -5,6 +5,5 @@ pub mod Refusals
 pub mod Mp4
 pub mod FileParts
 pub mod File
-pub mod Pieces
 pub mod Views
 pub mod Gathering

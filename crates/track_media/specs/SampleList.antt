@@ -15,7 +15,7 @@ use Rattle.track_media.specs.declared.kind.MediaFault.TheVariants.{Refused, OutO
 use Rattle.track_media.specs.declared.line.ListLine.{ListLine}
 use Rattle.track_media.specs.declared.line.ListLine.TheVariants as a
 use Rattle.track_media.specs.declared.line.Known.{Known}
-use Rattle.track_media.specs.Text.{lines_of}
+use Rattle.text_words.specs.Lines.{lines_of}
 use Rattle.track_media.specs.ListLine.{line_in}
 use Rattle.std.specs.Prelude.{◌==◌, if◌then◌else◌}
 

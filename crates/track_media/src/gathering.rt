@@ -5,7 +5,8 @@ ghost use Rattle.track_media.specs.Gathering.{nothing, pushed, is_of, empty_part
 
 use crate::line::{Known, ListLine};
 use eme_types::{
-    EncSample, Fragment, Fragments, Inits, Media, Parts, Samples, TrackIds, TrackPart,
+    EncSample, Fragment, Fragments, Inits, MAX_SAMPLE_BYTES, MAX_SAMPLES, Media, Parts, Samples,
+    TrackIds, TrackPart,
 };
 use std::alloc::{AllocError, Global};
 use std::marker::Model;

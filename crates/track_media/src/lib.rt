@@ -10,7 +10,6 @@ mod mp4;
 #[cfg(test)]
 mod mp4_tests;
 mod number;
-mod pieces;
 mod refusals;
 mod room;
 mod sample;

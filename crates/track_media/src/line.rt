@@ -5,11 +5,11 @@ ghost use Rattle.track_media.specs.ListLine.{Gives, Fits, track_line, fragment_l
 
 use crate::kind::{LineFault, MediaKind};
 use crate::number::track_id;
-use crate::pieces::{Pieces, has_empty_word};
 use crate::sample::sample_line;
-use crate::words::{data_in, init_kind, one_word, two_words};
+use crate::words::{data_in, has_empty_word, init_kind, one_word, two_words};
 use eme_types::{EncSample, InitData, Scheme, TrackIds};
 use std::alloc::Global;
+use text_words::Pieces;
 
 /// A line of a sample list.
 #[derive(Drop)]

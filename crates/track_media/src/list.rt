@@ -8,9 +8,9 @@ ghost use Rattle.track_media.specs.File.{GivesMedia};
 use crate::gathering::Gathered;
 use crate::kind::{LineFault, MediaFault};
 use crate::line::{Known, ListLine, read_line};
-use crate::pieces::next_line;
 use eme_types::Media;
 use std::alloc::Global;
+use text_words::next_line;
 
 /// Reads the line at a place.
 fn line_at(alloc: Global, known: &Known, place: u64, line: &[u8]) -> Result<ListLine, MediaFault>

@@ -1,63 +1,20 @@
 // Numbers in a line.
-ghost use Rattle.std.specs.Prelude.{◌≡◌, ◌+◌, ◌-◌, ◌*◌, ◌==◌, nat_le, if◌then◌else◌, Some, None, option_and_then};
-ghost use Rattle.std.specs.Option.{option_map};
-ghost use Rattle.std.specs.Prelude.{◌≤◌, IfOk, IfSome, IsTrue};
-ghost use Rattle.std.specs.Char.{is_ascii_digit};
-ghost use Rattle.std.specs.List.{list_all};
-ghost use Rattle.std.specs.Str.Parse.{digits_value};
-ghost use Rattle.track_media.specs.Text.{is_number, number_up_to, track_id, pair_at, pattern_in, sub_in, subs_in, all_subs, cut};
+ghost use Rattle.std.specs.Prelude.{◌≡◌, ◌≤◌, IfOk, IfSome};
+ghost use Rattle.text_words.specs.Pieces.{cut};
+ghost use Rattle.text_words.specs.Numbers.{number_up_to};
+ghost use Rattle.track_media.specs.Text.{track_id, pair_at, pattern_in, sub_in, subs_in, all_subs};
 
-use crate::pieces::Pieces;
 use eme_types::{Sub, Subs};
 use std::alloc::{AllocError, Global};
-
-fn are_digits(text: &[u8]) -> bool
-    ensures { result ≡ list_all is_ascii_digit text.now }
-{
-    text.iter().all(|b| b.is_ascii_digit())
-}
-
-/// Decimal digits, without leading zeros unless the number is 0.
-fn is_number(text: &[u8]) -> bool
-    ensures { result ≡ is_number text.now }
-{
-    !text.is_empty() && are_digits(text) && (text.len() == 1 || text[0] != b'0')
-}
-
-/// A digit behind the digits of a value.
-fn behind(value: u32, digit: u8) -> u64
-    ensures { result ≡ value * 10 + (digit - 48) }
-{
-    u64::from(value) * 10 + u64::from(digit.saturating_sub(b'0'))
-}
-
-/// The value of decimal digits, where it is at most this.
-fn value_up_to(most: u32, digits: &[u8]) -> Option<u32>
-    requires { IsTrue (list_all is_ascii_digit digits.now) }
-    ensures value { result ≡ (if nat_le (digits_value 10 digits.now) most then Some (digits_value 10 digits.now) else None) }
-    ensures within { IfSome result (λ n. n ≤ most) }
-{
-    let mut value: u32 = 0;
-    for digit in digits {
-        let next = behind(value, *digit);
-        if next > u64::from(most) {
-            return None;
-        }
-        value = next as u32;
-    }
-    Some(value)
-}
+use text_words::Pieces;
 
 /// The number that a text writes, where it is at most this.
-#[tactic(auto, unfolding(crate::specs::Text::number_up_to))]
 fn number_up_to(most: u32, text: &[u8]) -> Option<u32>
     ensures value { result ≡ number_up_to most text.now }
     ensures within { IfSome result (λ n. n ≤ most) }
 {
-    if !is_number(text) {
-        return None;
-    }
-    value_up_to(most, text)
+    let number = text_words::number_up_to(u64::from(most), text)?;
+    Some(number as u32)
 }
 
 /// A track id.
@@ -109,7 +66,7 @@ fn sub_in(text: &[u8]) -> Option<Sub>
 }
 
 /// Subsamples joined by commas.
-#[tactic(auto, using(crate::proofs::NumberLemmas::one_more, crate::proofs::NumberLemmas::no_more, crate::proofs::NumberLemmas::all_done, crate::proofs::NumberLemmas::none_done))]
+#[tactic(auto, using(crate::proofs::SubsampleLemmas::one_more, crate::proofs::SubsampleLemmas::no_more, crate::proofs::SubsampleLemmas::all_done, crate::proofs::SubsampleLemmas::none_done))]
 fn joined_subs(alloc: Global, word: &[u8]) -> Result<Option<Subs>, AllocError>
     ensures { IfOk result (λ subs. subs ≡ all_subs (cut 44 word.now)) }
 {

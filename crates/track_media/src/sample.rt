@@ -8,11 +8,11 @@ ghost use Rattle.track_media.specs.Views.{protection_of};
 use crate::kind::{LineFault, MediaKind};
 use crate::line::{Known, LINE, ListLine, Mode};
 use crate::number::{pattern_in, subs_in, track_id};
-use crate::pieces::Pieces;
 use crate::words::{Protected, data_in, five_words, four_words, iv_in, kid_in, one_word};
 use eme_types::{Bytes, EncSample, Protect, Scheme};
 use pattern_map::{SampleFault, check_sample};
 use std::alloc::Global;
+use text_words::Pieces;
 
 /// The data of a sample, for which there has to be room.
 #[tactic(auto, unfolding(crate::specs::ListLine::sample_data))]

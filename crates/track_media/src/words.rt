@@ -1,14 +1,14 @@
 // Words of a line that are not numbers.
 ghost use Rattle.std.specs.Prelude.{◌≡◌, ◌≤◌, [], None, Some, MatchOption, IfOk, IfSome, length};
 ghost use Rattle.std.specs.Option.{option_map};
-ghost use Rattle.track_media.specs.Text.{hex_bytes, data_in, kid_in, hex_of, iv_in, init_kind};
+ghost use Rattle.text_words.specs.Hexadecimal.{hex_bytes};
+ghost use Rattle.track_media.specs.Text.{has_empty_word, data_in, kid_in, hex_of, iv_in, init_kind};
 ghost use Rattle.track_media.specs.ListLine.{one_word, two_words, four_words, five_words};
 ghost use Rattle.track_media.specs.Views.{protection_of};
 
-use crate::pieces::Pieces;
 use eme_types::{Bytes, InitKind, Iv, KeyId, KeyIdFault};
-use hex::FromHexError;
 use std::alloc::{AllocError, Global};
+use text_words::Pieces;
 
 /// The words of a protected sample, but for its pattern.
 #[derive(Clone, Copy)]
@@ -71,15 +71,26 @@ pub fn five_words<'a>(mut words: Pieces<'a>) -> Option<(Protected<'a>, &'a [u8])
     Some((words, pattern))
 }
 
+/// Whether a line has a word without a byte.
+pub fn has_empty_word(line: &[u8]) -> bool
+    ensures { result ≡ has_empty_word line.now }
+{
+    let mut words = Pieces::new(line, b' ');
+    while let Some(word) = words.next() {
+        if word.is_empty() {
+            return true;
+        }
+    }
+    false
+}
+
 /// Pairs of hexadecimal digits.
-#[tactic(auto, unfolding(crate::specs::Text::hex_bytes))]
 fn hex_bytes(alloc: Global, word: &[u8]) -> Result<Option<Bytes>, AllocError>
     ensures { IfOk result (λ bytes. bytes ≡ hex_bytes word.now) }
 {
-    match hex::decode(alloc, word) {
-        Ok(bytes) => Ok(Some(Bytes::from_vec(bytes))),
-        Err(FromHexError::OutOfMemory) => Err(AllocError),
-        Err(_) => Ok(None),
+    match text_words::hex_bytes(alloc, word)? {
+        Some(bytes) => Ok(Some(Bytes::from_vec(bytes))),
+        None => Ok(None),
     }
 }
 

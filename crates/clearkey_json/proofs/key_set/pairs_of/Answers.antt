@@ -1,8 +1,9 @@
-use Rattle.std.proofs.Common.{◌∙◌, rules}
+use Rattle.std.proofs.Common.{◌≡◌, ◌∙◌, rules}
 use Rattle.std.proofs.lemmas.Result.{err_from_is_err_and}
 use Rattle.serde_json.specs.View.{view}
+use Rattle.clearkey_json.specs.declared.key_set.KeySetFault.TheVariants.{OutOfMemory}
 use Rattle.clearkey_json.specs.KeySet.{pair_of}
-use Rattle.clearkey_json.proofs.ListLemmas.{next_read, refused_read, all_read}
+use Rattle.eme_types.proofs.ReadEach.{next_read, refused_read, all_read}
 use Rattle.clearkey_json.proofs.KeySetLemmas.{pairs_of-some}
 use Rattle.clearkey_json.proofs.key_set.pairs_of.Goals as goal
 
@@ -10,7 +11,8 @@ pub returns-in_err-pair : goal.returns-in_err-pair
 returns-in_err-pair c =
     let p = err_from_is_err_and c.from_residual-in_err-pair.result c.from_residual-in_err-pair.ensures.1 in
     let l = c.loop-object in
-    rw (p.1, p.2) (λ other. pairs_of-some c.args.objects.now (search rules) ∙ refused_read pair_of view c.args.objects.now l.object-index c.object-item.result l.pairs _ _ c.loop-object-test.true c.object-item.is (c.in_err-pair.ensures other) l.invariant)
+    let some = pairs_of-some c.args.objects.now (search rules) in
+    rw (p.1, p.2, some) (refused_read pair_of view (λ e. e ≡ OutOfMemory) c.args.objects.now l.object-index c.object-item.result l.pairs _ _ c.loop-object-test.true c.object-item.is c.in_err-pair.ensures l.invariant)
 
 pub loop-object-preserved : goal.loop-object-preserved
 loop-object-preserved c =

@@ -1,8 +1,8 @@
 use Rattle.std.proofs.Common.{◌≡◌, map, drop}
 use Rattle.serde_json.specs.View.{view}
-use Rattle.clearkey_json.specs.Json.{read_each}
+use Rattle.eme_types.specs.FirstFault.{read_each}
 use Rattle.clearkey_json.specs.KeySet.{pair_of}
-use Rattle.clearkey_json.proofs.ListLemmas.{with_front}
+use Rattle.eme_types.proofs.ReadEach.{with_front}
 use Rattle.clearkey_json.proofs.key_set.pairs_of.Given as goal
 
 abbrev pub invariant-loop-object : goal.invariant-loop-object

@@ -1,6 +1,8 @@
+use Rattle.std.proofs.Common.{◌≡◌}
 use Rattle.std.proofs.lemmas.Result.{err_from_is_err_and}
 use Rattle.serde_json.specs.View.{view}
-use Rattle.clearkey_json.proofs.ListLemmas.{next_read, refused_read, all_read}
+use Rattle.eme_types.proofs.ReadEach.{next_read, refused_read, all_read}
+use Rattle.init_data.specs.declared.fault.InitFault.TheVariants.{OutOfMemory}
 use Rattle.init_data.specs.InitData.{kid_in}
 use Rattle.init_data.proofs.kids.kids_in.Goals as goal
 
@@ -8,7 +10,7 @@ pub returns-in_err-kid : goal.returns-in_err-kid
 returns-in_err-kid c =
     let p = err_from_is_err_and c.from_residual-in_err-kid.result c.from_residual-in_err-kid.ensures.1 in
     let l = c.loop-value in
-    rw (p.1, p.2) (λ other. refused_read kid_in view c.args.values.now l.value-index c.value-item.result l.kids.items _ _ c.loop-value-test.true c.value-item.is (c.in_err-kid.ensures other) l.invariant)
+    rw (p.1, p.2) (refused_read kid_in view (λ e. e ≡ OutOfMemory) c.args.values.now l.value-index c.value-item.result l.kids.items _ _ c.loop-value-test.true c.value-item.is c.in_err-kid.ensures l.invariant)
 
 pub loop-value-preserved : goal.loop-value-preserved
 loop-value-preserved c =

@@ -1,7 +1,7 @@
 use Rattle.std.proofs.Common.{◌≡◌, map, drop}
 use Rattle.serde_json.specs.View.{view}
-use Rattle.clearkey_json.specs.Json.{read_each}
-use Rattle.clearkey_json.proofs.ListLemmas.{with_front}
+use Rattle.eme_types.specs.FirstFault.{read_each}
+use Rattle.eme_types.proofs.ReadEach.{with_front}
 use Rattle.init_data.specs.InitData.{kid_in}
 use Rattle.init_data.proofs.kids.kids_in.Given as goal
 

@@ -1,5 +1,5 @@
 use Rattle.std.proofs.lemmas.Result.{err_from_is_err_and}
-use Rattle.std.proofs.Common.{false}
+use Rattle.std.proofs.Common.{false, inr}
 use Rattle.iso_boxes.specs.Walk.{found, boxes_left, walk}
 use Rattle.init_data.proofs.PsshLemmas.{begins_from, goes_on, stops, finishes, breaks}
 use Rattle.init_data.proofs.pssh.gathered.Goals as goal
@@ -11,7 +11,7 @@ pub returns-in_err-pssh-in-Ok-Some-clause-value : goal.returns-in_err-pssh-in-Ok
 returns-in_err-pssh-in-Ok-Some-clause-value c =
     let p = err_from_is_err_and c.from_residual.result c.from_residual.ensures.1 in
     let steps = rw c.in-Ok-Some.field-0-is at c.in-Ok-Some.ensures.walks in
-    rw (p.1, p.2) (λ other. stops c.walk.list (found c.in-Ok-Some.at) (boxes_left c.walk.boxes) (boxes_left c.next_box.new.self) _ _ steps (c.in_err-pssh-in-Ok-Some.ensures.value other) c.walk.invariant)
+    rw (p.1, p.2) (stops c.walk.list (found c.in-Ok-Some.at) (boxes_left c.walk.boxes) (boxes_left c.next_box.new.self) _ _ steps c.in_err-pssh-in-Ok-Some.ensures.value c.walk.invariant)
 
 pub walk-preserved : goal.walk-preserved
 walk-preserved c =
@@ -25,4 +25,4 @@ returns-in-Ok-None-clause-value c =
     finishes c.walk.list (boxes_left c.walk.boxes) _ steps c.walk.invariant
 
 pub returns-in-Err-clause-value : goal.returns-in-Err-clause-value
-returns-in-Err-clause-value c = λ other. breaks c.walk.list (boxes_left c.walk.boxes) c.in-Err.field-0 _ c.in-Err.ensures.walks c.walk.invariant
+returns-in-Err-clause-value c = inr (breaks c.walk.list (boxes_left c.walk.boxes) c.in-Err.field-0 _ c.in-Err.ensures.walks c.walk.invariant)

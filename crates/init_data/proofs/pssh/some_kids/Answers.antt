@@ -1,3 +1,4 @@
+use Rattle.std.proofs.Common.{inr}
 use Rattle.iso_boxes.specs.Reading.{some_bytes}
 use Rattle.iso_boxes.proofs.Repeating.{one_more, broken_off, finished}
 use Rattle.init_data.specs.declared.fault.InitFault.TheVariants.{Invalid}
@@ -6,7 +7,7 @@ use Rattle.init_data.proofs.pssh.some_kids.Goals as goal
 
 pub returns-in_default-clause-value : goal.returns-in_default-clause-value
 returns-in_default-clause-value c =
-    λ other. broken_off (some_bytes Invalid 16) c.loop.kids c.args.count c.loop.counter c.loop.rest.now Invalid _ c.loop-test.true (some_bytes-err 16 c.loop.rest.now c.in_default.ensures) c.loop.invariant
+    inr (broken_off (some_bytes Invalid 16) c.loop.kids c.args.count c.loop.counter c.loop.rest.now Invalid _ c.loop-test.true (some_bytes-err 16 c.loop.rest.now c.in_default.ensures) c.loop.invariant)
 
 pub loop-preserved : goal.loop-preserved
 loop-preserved c =

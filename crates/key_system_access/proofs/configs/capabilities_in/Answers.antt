@@ -1,7 +1,9 @@
+use Rattle.std.proofs.Common.{◌≡◌}
 use Rattle.std.proofs.lemmas.List.Elements.{All-push}
 use Rattle.std.proofs.lemmas.Result.{err_from_is_err_and}
 use Rattle.serde_json.specs.View.{view}
-use Rattle.clearkey_json.proofs.ListLemmas.{next_read, refused_read, all_read}
+use Rattle.eme_types.proofs.ReadEach.{next_read, refused_read, all_read}
+use Rattle.key_system_access.specs.declared.configs.ConfigFault.TheVariants.{OutOfMemory}
 use Rattle.key_system_access.specs.Configs.{capability_of}
 use Rattle.key_system_access.specs.Utf8.{IsCapabilityUtf8}
 use Rattle.key_system_access.proofs.configs.capabilities_in.Goals as goal
@@ -10,7 +12,7 @@ pub returns-in_err-capability-clause-value : goal.returns-in_err-capability-clau
 returns-in_err-capability-clause-value c =
     let p = err_from_is_err_and c.from_residual-in_err-capability.result c.from_residual-in_err-capability.ensures.1 in
     let l = c.loop-value in
-    rw (p.1, p.2) (λ other. refused_read capability_of view c.args.values.now l.value-index c.value-item.result l.capabilities _ _ c.loop-value-test.true c.value-item.is (c.in_err-capability.ensures.value other) l.invariant.read)
+    rw (p.1, p.2) (refused_read capability_of view (λ e. e ≡ OutOfMemory) c.args.values.now l.value-index c.value-item.result l.capabilities _ _ c.loop-value-test.true c.value-item.is c.in_err-capability.ensures.value l.invariant.read)
 
 pub loop-value-preserved : goal.loop-value-preserved
 loop-value-preserved c =

@@ -1,8 +1,8 @@
 use Rattle.std.proofs.Common.{◌≡◌, map, drop}
 use Rattle.std.specs.List.{All}
 use Rattle.serde_json.specs.View.{view}
-use Rattle.clearkey_json.specs.Json.{read_each}
-use Rattle.clearkey_json.proofs.ListLemmas.{with_front}
+use Rattle.eme_types.specs.FirstFault.{read_each}
+use Rattle.eme_types.proofs.ReadEach.{with_front}
 use Rattle.key_system_access.specs.Configs.{capability_of}
 use Rattle.key_system_access.specs.Utf8.{IsCapabilityUtf8}
 use Rattle.key_system_access.proofs.configs.capabilities_in.Given as goal

@@ -2,8 +2,8 @@ use Rattle.std.proofs.Common.{◌≡◌, map, drop}
 use Rattle.std.specs.List.{All}
 use Rattle.std.specs.Str.{IsUtf8}
 use Rattle.serde_json.specs.View.{view}
-use Rattle.clearkey_json.specs.Json.{read_each}
-use Rattle.clearkey_json.proofs.ListLemmas.{with_front}
+use Rattle.eme_types.specs.FirstFault.{read_each}
+use Rattle.eme_types.proofs.ReadEach.{with_front}
 use Rattle.key_system_access.specs.Configs.{text_of}
 use Rattle.key_system_access.proofs.configs.texts_in.Given as goal
 

@@ -10,7 +10,7 @@ use Rattle.player_core.proofs.alone.play_line.Goals as goal
 
 pub returns-in-Ok-clause-goes : goal.returns-in-Ok-clause-goes
 returns-in-Ok-clause-goes c =
-    let given : Option Fragment = slice_get c.args.fragments.now c.args.next.now in
+    let given : Option Fragment = slice_get c.args.left.now.items 0 in
     let line = c.args.line.now in
     let is : entry_of line given ≡ Call line.lane line.number c.in-Ask.call = ap (λ (a : Action). entry_for line.number line.lane a given) c.in-Ask.is in
     let copy : Call line.lane line.number c.in_ok-call-in-Ask.call ≡ entry_of line given = ap (λ (call : AppCall). Call line.lane line.number call) c.in_ok-call-in-Ask.ensures ∙ sym is in
@@ -18,7 +18,7 @@ returns-in-Ok-clause-goes c =
 
 pub returns-in_ok-tick-in-Clock-clause-goes : goal.returns-in_ok-tick-in-Clock-clause-goes
 returns-in_ok-tick-in-Clock-clause-goes c =
-    let given : Option Fragment = slice_get c.args.fragments.now c.args.next.now in
+    let given : Option Fragment = slice_get c.args.left.now.items 0 in
     let line = c.args.line.now in
     let is : entry_of line given ≡ Tick line.number c.in-Clock.moment = ap (λ (a : Action). entry_for line.number line.lane a given) c.in-Clock.is in
     subst (λ (e : Entry). Goes c.args.cdm.now c.tick.new.self e) (sym is) (goes_now c.args.cdm.now c.args.cdm.now c.tick.new.self (Tick line.number c.in-Clock.moment) refl c.in_ok-tick-in-Clock.ensures.ok (λ w t i n k x. cc) (λ last. last))

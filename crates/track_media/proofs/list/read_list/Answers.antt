@@ -4,7 +4,7 @@ use Rattle.std.proofs.lemmas.Result.{err_from_is_err_and}
 use Rattle.track_media.specs.declared.line.Known.{Known}
 use Rattle.track_media.specs.ListLine.{Fits, line_in}
 use Rattle.track_media.specs.Gathering.{Gathering}
-use Rattle.track_media.specs.Text.{lines_of}
+use Rattle.text_words.specs.Lines.{lines_of}
 use Rattle.track_media.specs.SampleList.{lines_from, placed}
 use Rattle.track_media.proofs.Standing.{starts, reads_on, list_broken, list_whole}
 use Rattle.track_media.proofs.Sound.{nothing_sound, sound_on, finished_fed}

@@ -1,5 +1,5 @@
 use Rattle.std.proofs.Common.{◌+◌, ◌<◌, ◌≤◌, [], length}
-use Rattle.track_media.specs.Text.{lines_of}
+use Rattle.text_words.specs.Lines.{lines_of}
 use Rattle.track_media.specs.SampleList.{lines_from}
 use Rattle.track_media.proofs.Standing.{Reads}
 use Rattle.track_media.proofs.Sound.{Sound}

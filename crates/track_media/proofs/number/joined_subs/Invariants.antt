@@ -1,6 +1,7 @@
 use Rattle.std.proofs.Common.{◌≡◌, length}
-use Rattle.track_media.specs.Text.{all_subs, cut}
-use Rattle.track_media.proofs.NumberLemmas.{joined_subs}
+use Rattle.text_words.specs.Pieces.{cut}
+use Rattle.track_media.specs.Text.{all_subs}
+use Rattle.track_media.proofs.SubsampleLemmas.{joined_subs}
 use Rattle.track_media.proofs.number.joined_subs.Given as goal
 
 abbrev pub invariant-loop-text : goal.invariant-loop-text

@@ -1,9 +1,9 @@
--- A list of JSON values read item by item.
-use Rattle.std.proofs.Common.{◌≡◌, ℕ, ◌+◌, ◌<◌, ◌≤◌, List, [], ◌∷◌, ◌++◌, length, get_or, drop, map, Bool, true, false, Result, Ok, Err, refl, ap, ◌∙◌, append_assoc, add-one, drop-cons}
+-- A list read item by item, in a loop over its places.
+use Rattle.std.proofs.Common.{◌≡◌, ℕ, ◌+◌, ◌<◌, ◌≤◌, List, [], ◌∷◌, ◌++◌, length, get_or, drop, map, inl, inr, Result, Ok, Err, refl, ap, ◌∙◌, append_assoc, add-one, drop-cons}
+use Rattle.std.specs.Prelude.{◌⊎◌}
 use Rattle.std.proofs.Math.ListN.{drop_of_length-le}
 use Rattle.std.proofs.lemmas.List.{append-nil}
-use Rattle.std.specs.List.{list_all}
-use Rattle.clearkey_json.specs.Json.{◌>>=◌, read_each}
+use Rattle.eme_types.specs.FirstFault.{◌>>=◌, read_each}
 
 -- what was read before, and what is still read
 abbrev pub with_front : {B E : Type 0} → List B → Result (List B) E → Result (List B) E
@@ -42,26 +42,14 @@ module _ {A B E : Type 0} (reader : A → Result B E) where
     next_read xs i x front y all lt is one before =
         before ∙ ap (λ zs. with_front front (read_each reader zs)) (items_from f xs i x lt is) ∙ goes_on front (f x) (map f (drop (i + 1) xs)) y one
 
-    pub refused_read : (xs : List D) (i : ℕ) (x : D) (front : List B) (e : E) (all : Result (List B) E) → i < length xs → x ≡ get_or xs i x → reader (f x) ≡ Err e
-        → all ≡ with_front front (read_each reader (map f (drop i xs))) → all ≡ Err e
-    refused_read xs i x front e all lt is one before =
-        before ∙ ap (λ zs. with_front front (read_each reader zs)) (items_from f xs i x lt is) ∙ stops front (f x) (map f (drop (i + 1) xs)) e one
+    -- the fault that stops the reading is that of an item, or want of memory
+    pub refused_read : (WantsMemory : E → Type 0) (xs : List D) (i : ℕ) (x : D) (front : List B) (e : E) (all : Result (List B) E) → i < length xs → x ≡ get_or xs i x
+        → WantsMemory e ⊎ (reader (f x) ≡ Err e) → all ≡ with_front front (read_each reader (map f (drop i xs))) → WantsMemory e ⊎ (all ≡ Err e)
+    refused_read WantsMemory xs i x front e all lt is (inl wants) before = inl wants
+    refused_read WantsMemory xs i x front e all lt is (inr one) before =
+        inr (before ∙ ap (λ zs. with_front front (read_each reader zs)) (items_from f xs i x lt is) ∙ stops front (f x) (map f (drop (i + 1) xs)) e one)
 
     pub all_read : (xs : List D) (i : ℕ) (front : List B) (all : Result (List B) E) → length xs ≤ i
         → all ≡ with_front front (read_each reader (map f (drop i xs))) → all ≡ Ok front
     unfolding read_each
     all_read xs i front all past before = before ∙ rw (drop_of_length-le xs past) (ap (in_ok E) (append-nil front))
-
--- ---- a test of all items
-
-module _ {A D : Type 0} (test : A → Bool) (f : D → A) where
-  pub next_passes : (xs : List D) (i : ℕ) (x : D) (all : Bool) → i < length xs → x ≡ get_or xs i x → test (f x) ≡ true
-      → all ≡ list_all test (map f (drop i xs)) → all ≡ list_all test (map f (drop (i + 1) xs))
-  next_passes xs i x all lt is one before = before ∙ ap (list_all test) (items_from f xs i x lt is) ∙ rw one refl
-
-  pub one_fails : (xs : List D) (i : ℕ) (x : D) (all : Bool) → i < length xs → x ≡ get_or xs i x → test (f x) ≡ false
-      → all ≡ list_all test (map f (drop i xs)) → all ≡ false
-  one_fails xs i x all lt is one before = before ∙ ap (list_all test) (items_from f xs i x lt is) ∙ rw one refl
-
-  pub all_pass : (xs : List D) (i : ℕ) (all : Bool) → length xs ≤ i → all ≡ list_all test (map f (drop i xs)) → all ≡ true
-  all_pass xs i all past before = before ∙ rw (drop_of_length-le xs past) refl

@@ -1,7 +1,8 @@
 use Rattle.std.proofs.Common.{◌≡◌, length}
 use Rattle.std.specs.List.{list_any}
-use Rattle.track_media.specs.Text.{is_nothing, has_empty_word}
-use Rattle.track_media.proofs.pieces.has_empty_word.Given as goal
+use Rattle.text_words.specs.Fronts.{is_nothing}
+use Rattle.track_media.specs.Text.{has_empty_word}
+use Rattle.track_media.proofs.words.has_empty_word.Given as goal
 
 abbrev pub invariant-loop-word : goal.invariant-loop-word
 invariant-loop-word l = list_any is_nothing l.words ≡ has_empty_word l.line
