@@ -1,4 +1,4 @@
-use Rattle.std.proofs.Common.{[], ◌≡◌, ◌∙◌, ℕ, refl, get_or, length, ap, sym, subst, arith}
+use Rattle.std.proofs.Common.{rules, [], ◌≡◌, ◌∙◌, ℕ, refl, get_or, length, ap, sym, subst, arith}
 use Rattle.std.specs.Prelude.{filter}
 use Rattle.eme_types.specs.declared.entry.Entry.TheVariants.{Publish}
 use Rattle.key_claims.specs.Changes.{changed_at, more_out}
@@ -14,15 +14,25 @@ use Rattle.cdm_state.proofs.First.{first_publish}
 use Rattle.cdm_state.proofs.OutOn.{out_publish}
 use Rattle.cdm_state.proofs.cdm.Cdm.publish.Goals as goal
 
-pub returns-in-None-clause-not_ready : goal.returns-in-None-clause-not_ready
-returns-in-None-clause-not_ready c =
+pub returns-in-None : goal.returns-in-None
+returns-in-None c =
     let s = c.self.inside in
-    rw (← c.self.view_is) (no_publish s.ids s.parts.chronicle.entries s.parts.chronicle.effects s.parts.sessions.machine s.parts.tracks.tracks s.parts.tracks.claims c.self.invariant.2 c.in-None.ensures)
+    record {
+      ok = tt;
+      first = tt;
+      err = search rules;
+      not_ready = rw (← c.self.view_is) (no_publish s.ids s.parts.chronicle.entries s.parts.chronicle.effects s.parts.sessions.machine s.parts.tracks.tracks s.parts.tracks.claims c.self.invariant.2 c.in-None.ensures);
+    }
 
-pub returns-in_err-published-clause-not_ready : goal.returns-in_err-published-clause-not_ready
-returns-in_err-published-clause-not_ready c =
+pub returns-in_err-published : goal.returns-in_err-published
+returns-in_err-published c =
     let s = c.self.inside in
-    on_err c.from_residual.result (rw (← c.self.view_is) (no_publish s.ids s.parts.chronicle.entries s.parts.chronicle.effects s.parts.sessions.machine s.parts.tracks.tracks s.parts.tracks.claims c.self.invariant.2 c.in_err-published.ensures.not_ready))
+    record {
+      ok = search rules;
+      first = search rules;
+      err = search rules;
+      not_ready = on_err c.from_residual.result (rw (← c.self.view_is) (no_publish s.ids s.parts.chronicle.entries s.parts.chronicle.effects s.parts.sessions.machine s.parts.tracks.tracks s.parts.tracks.claims c.self.invariant.2 c.in_err-published.ensures.not_ready));
+    }
 
 pub append_unseen-requires : goal.append_unseen-requires
 append_unseen-requires c =
@@ -53,11 +63,13 @@ invariant_of-self-2 c =
       out_publish s.ids s.parts.chronicle.entries c.append_unseen.new.self.entries s.parts.chronicle.effects s.parts.sessions.machine ts claims c.publish.new.self.claims out.track out.index p.at place p.clear c.self.invariant.2 c.self.invariant.3 c.self.invariant.4 ready (p.next.track_ no_track) (p.next.index_ no_track) given c.append_unseen.ensures.entries gone,
     )
 
-pub returns-clause-ok : goal.returns-clause-ok
-returns-clause-ok c = (c.in-Some.ready.place, rw (← c.self.view_is, c.append_unseen.ensures.entries) refl)
-
-pub returns-clause-first : goal.returns-clause-first
-returns-clause-first c =
+pub returns : goal.returns
+returns c =
     let s = c.self.inside in
     let p = c.in_ok-published.ensures.ok in
-    rw (← c.self.view_is) (first_publish s.ids s.parts.chronicle.entries s.parts.chronicle.effects s.parts.sessions.machine s.parts.tracks.tracks s.parts.tracks.claims p.at p.place c.in_ok-published.published.track no_track c.self.invariant.2 c.self.invariant.3 p.first (p.next.track_ no_track))
+    record {
+      ok = (c.in-Some.ready.place, rw (← c.self.view_is, c.append_unseen.ensures.entries) refl);
+      first = rw (← c.self.view_is) (first_publish s.ids s.parts.chronicle.entries s.parts.chronicle.effects s.parts.sessions.machine s.parts.tracks.tracks s.parts.tracks.claims p.at p.place c.in_ok-published.published.track no_track c.self.invariant.2 c.self.invariant.3 p.first (p.next.track_ no_track));
+      err = tt;
+      not_ready = tt;
+    }
