@@ -1,3 +1,4 @@
+pub mod Bound
 pub mod After
 pub mod History
 pub mod Output
