@@ -33,7 +33,22 @@ fn passes_make_one_history(rt: HostRuntime) -> Result<(), Fail> {
     shared.join(&mut first, second);
     let cdm = shared.close(first).ok().ok_or(NO_MEMORY)?;
     assert!(rt; created && fed);
-    assert!(rt; matches!(cdm.history(), [Entry::Call { lane: 1, line: 2, .. }, Entry::Feed { line: 3, fragment: None }]));
+    assert!(rt;
+        matches!(
+            cdm.history(),
+            [
+                Entry::Call {
+                    lane: 1,
+                    line: 2,
+                    ..
+                },
+                Entry::Feed {
+                    line: 3,
+                    fragment: None
+                }
+            ]
+        )
+    );
     Ok(())
 }
 
@@ -48,7 +63,12 @@ fn threads_make_one_history(rt: HostRuntime) -> Result<(), Fail> {
     // The calls of each lane stand in the order of their lines.
     let mut next = [1u32, 1];
     for entry in cdm.history() {
-        let Entry::Call { lane, line, call: AppCall::Certificate { .. } } = entry else {
+        let Entry::Call {
+            lane,
+            line,
+            call: AppCall::Certificate { .. },
+        } = entry
+        else {
             return Err(Fail::from("another entry"));
         };
         let lane = usize::from(*lane) - 1;

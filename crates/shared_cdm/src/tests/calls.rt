@@ -39,7 +39,11 @@ pub fn feed_nothing<R: Wait>(rt: &R, shared: &SharedCdm, pass: Pass<Cdm>) -> (Pa
 }
 
 /// The front job.
-pub fn job<R: Wait>(rt: &R, shared: &SharedCdm, pass: Pass<Cdm>) -> (Pass<Cdm>, Result<(), StepFault>)
+pub fn job<R: Wait>(
+    rt: &R,
+    shared: &SharedCdm,
+    pass: Pass<Cdm>,
+) -> (Pass<Cdm>, Result<(), StepFault>)
     requires { IsOf shared.now pass }
     ensures { IsOf shared.now result.0 × (parts result.0 ≡ parts pass) }
 {
@@ -47,7 +51,12 @@ pub fn job<R: Wait>(rt: &R, shared: &SharedCdm, pass: Pass<Cdm>) -> (Pass<Cdm>, 
 }
 
 /// A worker at the desk; answers whether it has ended because the desk is over.
-pub fn works<R: Wait>(rt: &R, alloc: Global, shared: &SharedCdm, pass: Pass<Cdm>) -> (Pass<Cdm>, bool)
+pub fn works<R: Wait>(
+    rt: &R,
+    alloc: Global,
+    shared: &SharedCdm,
+    pass: Pass<Cdm>,
+) -> (Pass<Cdm>, bool)
     requires { IsOf shared.now pass }
     ensures { IsOf shared.now result.0 × (parts result.0 ≡ parts pass) }
 {
