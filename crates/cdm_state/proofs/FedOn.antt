@@ -126,21 +126,6 @@ publish_on ids h did m ts claims t track index place kept may is id =
 pub some_none : (o : Option ℕ) (p : ℕ) → o ≡ Some p → o ≡ None → ⊥
 some_none o p some none = (let z : Some p ≡ None = sym some ∙ none in absurd cc)
 
--- there is one first track that is ready
-pub same_ready : (claims : List ClaimState) (ts : List FedTrack) (a b p q : ℕ) → IsReady claims ts a p → IsReady claims ts b q → p ≡ q
-same_ready claims ts a b p q x y = elim (eqb_tells a b) [
-  | inl e ↦ number p q (sym (x.on no_track) ∙ (ap (λ (n : ℕ). ready_on claims (get_or ts n no_track)) e.1 ∙ y.on no_track))
-  | inr ne ↦ elim (leb_tells a b) [
-    | inl le ↦ (let lt : a < b = below a b le.1 ne.1 in absurd (some_none (ready_on claims (get_or ts a no_track)) p (x.on no_track) (y.first a no_track lt)))
-    | inr gt ↦ absurd (some_none (ready_on claims (get_or ts b no_track)) q (y.on no_track) (x.first b no_track gt.1))
-  ]
-] where
-  number : (p q : ℕ) → Some p ≡ Some q → p ≡ q
-  number p q e = cc
-
-  below : (a b : ℕ) → a ≤ b → (a ≡ b → ⊥) → a < b
-  below a b le ne = elim (eq-or-lt_of_le le) [ inl e ↦ absurd (ne e) | inr lt ↦ lt ]
-
 -- where no track is ready, no publication is allowed
 pub no_publish : (ids : List ℕ) (h : List Entry) (did : List (List Effect)) (m : Machine) (ts : List FedTrack) (claims : List ClaimState) → LegalKept ids h did (world_of m ts) claims → NoneReady claims ts → (track index place : ℕ) → MayPublish ids h track index place → ⊥
 no_publish ids h did m ts claims kept none track index place may =

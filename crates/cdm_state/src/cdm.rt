@@ -283,17 +283,14 @@ impl Cdm {
     pub fn publish(&mut self) -> Result<Published, NotReady>
         ensures { PublishDoes self.old result self.new }
     {
-        let place = match self.parts.tracks.ready() {
-            None => return Err(NotReady),
-            Some(ready) => ready.place,
-        };
-        let published = self.parts.tracks.publish()?;
+        let ready = self.parts.tracks.publish_ready()?;
+        let (track, index, place) = (ready.track, ready.index, ready.place);
         self.parts.chronicle.append_unseen(Entry::Publish {
-            track: published.track,
-            index: published.index,
+            track,
+            index,
             place,
         });
-        Ok(published)
+        Ok(Published { track, index })
     }
 
     /// The first track whose next sample is unprotected gives it out.
