@@ -18,12 +18,11 @@ use Rattle.cdm_world.specs.In.{In}
 use Rattle.cdm_state.specs.Claims.{ClaimsKept, ClearKept}
 use Rattle.key_claims.specs.Kept.{Once}
 use Rattle.cdm_state.specs.History.{world, IsAt, IsLegal, Allowed, Ends, Spends, HoldsFor, Live, LiveAs}
-use Rattle.cdm_state.proofs.Places.{either_place, slice_get_last, In-left, In-last}
+use Rattle.cdm_state.proofs.Places.{either_place, slice_get_last}
 use Rattle.cdm_state.proofs.Histories.{world_more}
 use Rattle.cdm_state.proofs.Live.{SameKeys, clear_more, claims_stay, live_before, at_within, live_less, live_more, live_now, same_held}
-
-some_alone : {A : Type 0} (x y : A) → Some x ≡ Some y → x ≡ y
-some_alone x y e = cc
+use Rattle.cdm_state.proofs.Plain.{some_alone}
+use Rattle.cdm_world.proofs.Members.{In_left, In_right, In_more}
 
 pick_case : (moment n : ℕ) (x : SessionState) (xs : List SessionState) (kid : List ℕ) (s : ℕ) (k : KeyBytes) (u : Option KeyBytes) → usable_key moment x kid ≡ u → or_else u n (pick_from moment (n + 1) xs kid) ≡ Some (s, k) → (pick_from moment (n + 1) xs kid ≡ Some (s, k) → (n + 1 ≤ s) × (key_of moment (slice_get xs (s - (n + 1))) kid ≡ Some k)) → (n ≤ s) × (key_of moment (slice_get (x ∷ xs) (s - n)) kid ≡ Some k)
 pick_case moment n x xs kid s k None is e rest =
@@ -90,15 +89,9 @@ entry_ends : (s : ClaimState) (p : ℕ) → Ends (entry_of s) p ⊎ Spends (entr
 entry_ends s p (inl x) = x
 entry_ends s p (inr x) = x
 
-pub In-either : (xs : List ClaimState) (s t : ClaimState) → In (xs ++ s ∷ []) t → In xs t ⊎ (s ≡ t)
-In-either [] s t (inl e) = inr e
-In-either [] s t (inr x) = absurd x
-In-either (y ∷ ys) s t (inl e) = inl (inl e)
-In-either (y ∷ ys) s t (inr x) = elim (In-either ys s t x) [ inl b ↦ inl (inr b) | inr e ↦ inr e ]
-
 once_new : (xs : List ClaimState) (s : ClaimState) → ((t : ClaimState) → In xs t → t.place ≡ s.place → ⊥) → Once xs → Once (xs ++ s ∷ [])
 once_new [] s new once = ((λ t there. absurd there), tt)
-once_new (x ∷ xs) s new once = ((λ t there same. elim (In-either xs s t there) [ inl b ↦ once.0 t b same | inr e ↦ new x (inl refl) (same ∙ ap (λ (u : ClaimState). u.place) (sym e)) ]), once_new xs s (λ t there. new t (inr there)) once.1)
+once_new (x ∷ xs) s new once = ((λ t there same. elim (In_more xs s t there) [ inl b ↦ once.0 t b same | inr e ↦ new x (inl refl) (same ∙ ap (λ (u : ClaimState). u.place) (sym e)) ]), once_new xs s (λ t there. new t (inr there)) once.1)
 
 -- a new claim is live, beside those that were
 pub claims_new : (ids : List ℕ) (h : List Entry) (claims : List ClaimState) (s : ClaimState) → IsLegal ids h → s.place ≡ length h + 1 → s.clear ≡ None → held_key (world ids h).machine s.session s.kid ≡ Some s.key → ClaimsKept ids h claims → ClaimsKept ids (h ++ entry_of s ∷ []) (claims ++ s ∷ [])
@@ -120,12 +113,12 @@ claims_new ids h claims s legal here waits holds kept =
     } in
     let old : (t : ClaimState) → In claims t → LiveAs ids (h ++ e ∷ []) t.place (entry_of t) t.key = λ t there. live_more ids h e t.place (entry_of t) t.key (kept.live t there) (same_held (world ids h).machine (world ids (h ++ e ∷ [])).machine t.session t.kid keys ∙ live_now ids h t.place (entry_of t) t.key (kept.live t there)) (λ x. x) in
     record {
-      live = λ t there. elim (In-either claims s t there) [ inl b ↦ old t b | inr same ↦ subst (λ (u : ClaimState). LiveAs ids (h ++ e ∷ []) u.place (entry_of u) u.key) same live ];
+      live = λ t there. elim (In_more claims s t there) [ inl b ↦ old t b | inr same ↦ subst (λ (u : ClaimState). LiveAs ids (h ++ e ∷ []) u.place (entry_of u) u.key) same live ];
       all = λ c l. elim (last_place h e l.0 c l.2.at) [
-        | inl p ↦ (let found = kept.all c (l.0, l.1, live_less ids h e c l.0 l.1 l.2 (at_within h c l.0 p)) in (found.0, In-left claims (s ∷ []) found.0 found.1, found.2))
-        | inr p ↦ (s, In-last claims s, here ∙ sym p.1)
+        | inl p ↦ (let found = kept.all c (l.0, l.1, live_less ids h e c l.0 l.1 l.2 (at_within h c l.0 p)) in (found.0, In_left claims (s ∷ []) found.0 found.1, found.2))
+        | inr p ↦ (s, In_right claims (s ∷ []) s (inl refl), here ∙ sym p.1)
       ];
-      clear = λ t there. elim (In-either claims s t there) [
+      clear = λ t there. elim (In_more claims s t there) [
         | inl b ↦ clear_more h e t.place t.clear (λ x. x) (kept.clear t b)
         | inr same ↦ subst (λ (u : ClaimState). ClearKept (h ++ e ∷ []) u.place u.clear) same (rw waits (record { worker = s.worker; track = s.track; index = s.index; session = s.session; kid = s.kid; at = at; none = λ n x there d. fresh n x there (inr d) }))
       ];

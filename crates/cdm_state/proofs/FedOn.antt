@@ -42,11 +42,8 @@ use Rattle.cdm_state.proofs.TrackLists.{no_track}
 use Rattle.cdm_state.proofs.May.{live_slot, known_at, claim_picked}
 use Rattle.cdm_state.proofs.Exact.{found_in}
 use Rattle.key_claims.proofs.Readiness.{ready_some}
-
-get_left : {A : Type 0} (xs ys : List A) (i : ℕ) (x : A) → slice_get xs i ≡ Some x → slice_get (xs ++ ys) i ≡ Some x
-get_left [] ys i x at = absurd cc
-get_left (z ∷ xs) ys zero x at = at
-get_left (z ∷ xs) ys (suc i) x at = get_left xs ys i x at
+use Rattle.cdm_state.proofs.Plain.{both_true}
+use Rattle.cdm_world.proofs.ItemsAt.{get_left}
 
 change_fed : (ts : List TrackState) (id : ℕ) (f : TrackState → TrackState) (t i : ℕ) (x : EncSample) → ((s : TrackState) → (f s).id ≡ s.id) → ((s : TrackState) → slice_get s.fed i ≡ Some x → slice_get (f s).fed i ≡ Some x) → fed_at (find_track ts t) i ≡ Some x → fed_at (find_track (change_track ts id f) t) i ≡ Some x
 change_fed [] id f t i x same up at = absurd cc
@@ -129,21 +126,6 @@ publish_on ids h did m ts claims t track index place kept may is id =
 pub some_none : (o : Option ℕ) (p : ℕ) → o ≡ Some p → o ≡ None → ⊥
 some_none o p some none = (let z : Some p ≡ None = sym some ∙ none in absurd cc)
 
--- there is one first track that is ready
-pub same_ready : (claims : List ClaimState) (ts : List FedTrack) (a b p q : ℕ) → IsReady claims ts a p → IsReady claims ts b q → p ≡ q
-same_ready claims ts a b p q x y = elim (eqb_tells a b) [
-  | inl e ↦ number p q (sym (x.on no_track) ∙ (ap (λ (n : ℕ). ready_on claims (get_or ts n no_track)) e.1 ∙ y.on no_track))
-  | inr ne ↦ elim (leb_tells a b) [
-    | inl le ↦ (let lt : a < b = below a b le.1 ne.1 in absurd (some_none (ready_on claims (get_or ts a no_track)) p (x.on no_track) (y.first a no_track lt)))
-    | inr gt ↦ absurd (some_none (ready_on claims (get_or ts b no_track)) q (y.on no_track) (x.first b no_track gt.1))
-  ]
-] where
-  number : (p q : ℕ) → Some p ≡ Some q → p ≡ q
-  number p q e = cc
-
-  below : (a b : ℕ) → a ≤ b → (a ≡ b → ⊥) → a < b
-  below a b le ne = elim (eq-or-lt_of_le le) [ inl e ↦ absurd (ne e) | inr lt ↦ lt ]
-
 -- where no track is ready, no publication is allowed
 pub no_publish : (ids : List ℕ) (h : List Entry) (did : List (List Effect)) (m : Machine) (ts : List FedTrack) (claims : List ClaimState) → LegalKept ids h did (world_of m ts) claims → NoneReady claims ts → (track index place : ℕ) → MayPublish ids h track index place → ⊥
 no_publish ids h did m ts claims kept none track index place may =
@@ -178,17 +160,13 @@ task_formed : (b : Bool) (picks : Picks) (ts : List TrackState) → AreFormed ts
 task_formed true picks ts formed = resumed_formed picks ts formed
 task_formed false picks ts formed = formed
 
-and_split : (a b : Bool) → (a && b) ≡ true → (a ≡ true) × (b ≡ true)
-and_split true b e = (refl, e)
-and_split false b e = absurd cc
-
 abbrev part_formed : TrackPart → Bool
 part_formed p = list_all is_well_formed p.samples
 
 parts_formed : (ts : List TrackState) (parts : List TrackPart) → list_all part_formed parts ≡ true → AreFormed ts → AreFormed (feed_parts ts parts)
 parts_formed ts [] all formed = formed
 parts_formed ts (p ∷ parts) all formed =
-    let both = and_split (part_formed p) (list_all part_formed parts) all in
+    let both = both_true (part_formed p) (list_all part_formed parts) all in
     parts_formed (feed_part ts p) parts both.1 (change_formed ts p.track (add_samples p.samples) (λ s e. list_all-append is_well_formed s.fed p.samples ∙ rw (e, both.0) refl) formed)
 
 entry_formed : (ids : List ℕ) (h : List Entry) (e : Entry) → Allowed ids h e → AreFormed (world ids h).tracks → AreFormed (after_entry (world ids h) e).tracks
@@ -219,10 +197,10 @@ all_formed ids h legal = legal_induction ids (λ g. AreFormed (world ids g).trac
 
 formed_get : (xs : List EncSample) (i : ℕ) (x : EncSample) → list_all is_well_formed xs ≡ true → slice_get xs i ≡ Some x → IsTrue (is_well_formed x)
 formed_get [] i x all at = absurd cc
-formed_get (y ∷ ys) zero x all at = (let same : y ≡ x = some_alone _ _ at in subst (λ (z : EncSample). is_well_formed z ≡ true) same (and_split (is_well_formed y) (list_all is_well_formed ys) all).0) where
+formed_get (y ∷ ys) zero x all at = (let same : y ≡ x = some_alone _ _ at in subst (λ (z : EncSample). is_well_formed z ≡ true) same (both_true (is_well_formed y) (list_all is_well_formed ys) all).0) where
   some_alone : (a b : EncSample) → Some a ≡ Some b → a ≡ b
   some_alone a b e = cc
-formed_get (y ∷ ys) (suc i) x all at = formed_get ys i x (and_split (is_well_formed y) (list_all is_well_formed ys) all).1 at
+formed_get (y ∷ ys) (suc i) x all at = formed_get ys i x (both_true (is_well_formed y) (list_all is_well_formed ys) all).1 at
 
 formed_found : (ts : List TrackState) (t i : ℕ) (x : EncSample) → AreFormed ts → fed_at (find_track ts t) i ≡ Some x → IsTrue (is_well_formed x)
 formed_found [] t i x formed at = absurd cc

@@ -22,9 +22,7 @@ use Rattle.cdm_state.proofs.TrackIds.{id_of, state_id, world_ids, states_ids}
 use Rattle.cdm_state.proofs.May.{known_at}
 use Rattle.cdm_state.proofs.Exact.{pass_on, wait_on, claim_on, no_work_on, none_some}
 use Rattle.cdm_state.proofs.FedOn.{publish_on, some_none}
-
-some_alone : {A : Type 0} (x y : A) → Some x ≡ Some y → x ≡ y
-some_alone x y e = cc
+use Rattle.cdm_state.proofs.Plain.{some_alone}
 
 -- the ids of a core stand as its tracks do
 kept_ids : (ids : List ℕ) (h : List Entry) (did : List (List Effect)) (m : Machine) (ts : List FedTrack) (claims : List ClaimState) → LegalKept ids h did (world_of m ts) claims → map id_of ts ≡ ids

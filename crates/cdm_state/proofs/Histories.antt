@@ -10,6 +10,7 @@ use Rattle.cdm_state.specs.After.{after_entry, effects_of}
 use Rattle.cdm_state.specs.History.{world, IsLegal, Allowed}
 use Rattle.cdm_state.specs.Settlements.{effects_from, effects_in}
 use Rattle.cdm_state.proofs.Places.{either_place}
+use Rattle.cdm_world.proofs.ItemsAt.{get_here}
 
 -- the state after one more entry
 pub world_more : (ids : List ℕ) (h : List Entry) (e : Entry) → world ids (h ++ e ∷ []) ≡ after_entry (world ids h) e
@@ -38,10 +39,6 @@ legal_more ids h e legal allowed n x at =
 pub goes_on : (ids : List ℕ) (h g : List Entry) (e : Entry) (w v : World) → IsLegal ids h → w ≡ world ids h → Allowed ids h e → g ≡ h ++ e ∷ [] → v ≡ after_entry w e → IsLegal ids g × (v ≡ world ids g)
 goes_on ids h g e w v legal state allowed more after =
     rw more (legal_more ids h e legal allowed, after ∙ (ap (λ u. after_entry u e) state ∙ sym (world_more ids h e)))
-
-get_here : (h : List Entry) (e : Entry) (es : List Entry) → slice_get (h ++ e ∷ es) (length h) ≡ Some e
-get_here [] e es = refl
-get_here (x ∷ h) e es = get_here h e es
 
 take_here : (h es : List Entry) → take (length h) (h ++ es) ≡ h
 take_here [] es = refl

@@ -23,21 +23,8 @@ use Rattle.cdm_state.specs.History.{world, Undelivered}
 use Rattle.cdm_state.proofs.FedOn.{fed_since}
 use Rattle.cdm_state.proofs.Live.{at_within}
 use Rattle.cdm_state.proofs.TrackLists.{seen, found_state}
-
-some_alone : {A : Type 0} (x y : A) → Some x ≡ Some y → x ≡ y
-some_alone x y e = cc
-
-track_same : (o : ClaimState) (c : Held) (kid : List ℕ) → entry_of o ≡ Claim c.worker c.track c.index c.session kid → o.track ≡ c.track
-track_same o c kid e = cc
-
-index_same : (o : ClaimState) (c : Held) (kid : List ℕ) → entry_of o ≡ Claim c.worker c.track c.index c.session kid → o.index ≡ c.index
-index_same o c kid e = cc
-
-session_same : (o : ClaimState) (c : Held) (kid : List ℕ) → entry_of o ≡ Claim c.worker c.track c.index c.session kid → o.session ≡ c.session
-session_same o c kid e = cc
-
-kid_same : (o : ClaimState) (c : Held) (kid : List ℕ) → entry_of o ≡ Claim c.worker c.track c.index c.session kid → o.kid ≡ kid
-kid_same o c kid e = cc
+use Rattle.cdm_state.proofs.Plain.{some_alone}
+use Rattle.cdm_state.proofs.EntryOf.{track_same, index_same, session_same, kid_same}
 
 -- what waits for its delivery has no clear bytes
 unopened : (h : List Entry) (place : ℕ) (o : Option (List ℕ)) → ClearKept h place o → Undelivered h place → o ≡ None

@@ -1,3 +1,5 @@
+pub mod Plain
+pub mod EntryOf
 pub mod TrackLists
 pub mod Copied
 pub mod Fired

@@ -22,6 +22,8 @@ use Rattle.cdm_state.specs.Claims.{ClaimsKept, ClearKept}
 use Rattle.key_claims.specs.Kept.{Once}
 use Rattle.cdm_state.specs.History.{world, IsAt, Ends, Spends, HoldsFor, Live, LiveAs, Undelivered}
 use Rattle.cdm_state.proofs.Places.{either_place, slice_get_left, slice_get_last, IsPlain}
+use Rattle.cdm_state.proofs.Plain.{some_alone}
+use Rattle.cdm_world.proofs.Members.{In_filter}
 
 slice_get_back : (h : List Entry) (e x : Entry) (n : ℕ) → n < length h → slice_get (h ++ e ∷ []) n ≡ Some x → slice_get h n ≡ Some x
 slice_get_back [] e x n lt at = absurd (omega arith)
@@ -59,9 +61,6 @@ live_more ids h e place claim key live now goes = record {
       ];
   unended = λ n x at. elim (either_place h e n x at) [ inl p ↦ live.unended n x p.0 | inr p ↦ λ ends. goes (subst (λ (y : Entry). Ends y place) p.0 ends) ];
 }
-
-some_alone : {A : Type 0} (x y : A) → Some x ≡ Some y → x ≡ y
-some_alone x y e = cc
 
 -- no claim has two keys
 key_alone : (w : World) (claim : Entry) (k l : KeyBytes) → HoldsFor w claim k → HoldsFor w claim l → k ≡ l
@@ -120,20 +119,15 @@ In-filter p (y ∷ ys) x (inr at) is = go (p y) (In-filter p ys x at is) where
   go true m = inr m
   go false m = m
 
-pub In-filtered : {A : Type 0} (p : A → Bool) (xs : List A) (x : A) → In (filter p xs) x → In xs x × (p x ≡ true)
-In-filtered p [] x at = absurd at
-In-filtered p (y ∷ ys) x at = go (p y) refl at (λ m. In-filtered p ys x m) where
-  go : (b : Bool) → p y ≡ b → In (if b then y ∷ filter p ys else filter p ys) x → (In (filter p ys) x → In ys x × (p x ≡ true)) → In (y ∷ ys) x × (p x ≡ true)
-  go true is (inl e) rest = (inl e, sym (ap p e) ∙ is)
-  go true is (inr m) rest = (let r = rest m in (inr r.0, r.1))
-  go false is m rest = (let r = rest m in (inr r.0, r.1))
-
 -- no place stands twice among some of them
+pub In-filtered : {A : Type 0} (p : A → Bool) (xs : List A) (x : A) → In (filter p xs) x → In xs x × (p x ≡ true)
+In-filtered p xs x there = In_filter p xs x there
+
 pub once_filter : (p : ClaimState → Bool) (xs : List ClaimState) → Once xs → Once (filter p xs)
 once_filter p [] once = tt
 once_filter p (x ∷ xs) once = go (p x) (once_filter p xs once.1) where
   go : (b : Bool) → Once (filter p xs) → Once (if b then x ∷ filter p xs else filter p xs)
-  go true rest = ((λ t there. once.0 t (In-filtered p xs t there).0), rest)
+  go true rest = ((λ t there. once.0 t (In_filter p xs t there).0), rest)
   go false rest = rest
 
 pub key_is : (held : Option KeyBytes) (key : KeyBytes) → is_key held key ≡ true → held ≡ Some key
@@ -170,12 +164,12 @@ pub claims_go_on : (ids : List ℕ) (h : List Entry) (e : Entry) (claims : List 
 claims_go_on ids h e claims leaves kept =
     let m = (world ids (h ++ e ∷ [])).machine in
     record {
-      live = λ s there. (let was = In-filtered (holds_still m) claims s there in live_more ids h e s.place (entry_of s) s.key (kept.live s was.0) (key_is (held_key m s.session s.kid) s.key was.1) (leaves.ends s.place));
+      live = λ s there. (let was = In_filter (holds_still m) claims s there in live_more ids h e s.place (entry_of s) s.key (kept.live s was.0) (key_is (held_key m s.session s.kid) s.key was.1) (leaves.ends s.place));
       all = λ place live.
           (let found = kept.all place (live_before ids h e place leaves.plain live) in
           let here : Live ids (h ++ e ∷ []) found.0.place = subst (λ (p : ℕ). Live ids (h ++ e ∷ []) p) (sym found.2) live in
           (found.0, In-filter (holds_still m) claims found.0 found.1 (is_key_same (held_key m found.0.session found.0.kid) found.0.key (still_holds ids h e found.0 (kept.live found.0 found.1) here)), found.2));
-      clear = λ s there. (let was = (In-filtered (holds_still m) claims s there).0 in clear_more h e s.place s.clear (leaves.spends s was) (kept.clear s was));
+      clear = λ s there. (let was = (In_filter (holds_still m) claims s there).0 in clear_more h e s.place s.clear (leaves.spends s was) (kept.clear s was));
       once = once_filter (holds_still m) claims kept.once;
     }
 
@@ -215,10 +209,10 @@ pub claims_end : (ids : List ℕ) (h : List Entry) (e : Entry) (place : ℕ) (cl
 claims_end ids h e place claims ends same kept =
     let m = (world ids (h ++ e ∷ [])).machine in
     record {
-      live = λ s there. (let was = In-filtered (is_other place) claims s there in live_more ids h e s.place (entry_of s) s.key (kept.live s was.0) (same_held (world ids h).machine m s.session s.kid same ∙ live_now ids h s.place (entry_of s) s.key (kept.live s was.0)) (λ x. is_other_true place s was.1 (ends.ends s.place x)));
+      live = λ s there. (let was = In_filter (is_other place) claims s there in live_more ids h e s.place (entry_of s) s.key (kept.live s was.0) (same_held (world ids h).machine m s.session s.kid same ∙ live_now ids h s.place (entry_of s) s.key (kept.live s was.0)) (λ x. is_other_true place s was.1 (ends.ends s.place x)));
       all = λ p live.
           (let found = kept.all p (live_before ids h e p ends.plain live) in
           (found.0, In-filter (is_other place) claims found.0 found.1 (is_other_yes place found.0 (λ here. live.2.unended (length h) e (slice_get_last h e) (subst (λ (q : ℕ). Ends e q) (sym here ∙ found.2) ends.this))), found.2));
-      clear = λ s there. (let was = In-filtered (is_other place) claims s there in clear_more h e s.place s.clear (λ x. is_other_true place s was.1 (ends.spends s.place x)) (kept.clear s was.0));
+      clear = λ s there. (let was = In_filter (is_other place) claims s there in clear_more h e s.place s.clear (λ x. is_other_true place s was.1 (ends.spends s.place x)) (kept.clear s was.0));
       once = once_filter (is_other place) claims kept.once;
     }

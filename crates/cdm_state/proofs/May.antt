@@ -30,13 +30,7 @@ use Rattle.cdm_state.proofs.TrackLists.{same_yes}
 use Rattle.cdm_state.proofs.TrackLists.{no_track, unkeyed_awake}
 use Rattle.key_claims.proofs.Readiness.{ready_there, ready_claimed}
 use Rattle.cdm_state.proofs.TrackIds.{id_of, state_id, world_ids, states_ids, first_here, find_here, or_right}
-
-some_alone : {A : Type 0} (x y : A) → Some x ≡ Some y → x ≡ y
-some_alone x y e = cc
-
-both_true : (a b : Bool) → (a && b) ≡ true → (a ≡ true) × (b ≡ true)
-both_true true b e = (refl, e)
-both_true false b e = absurd cc
+use Rattle.cdm_state.proofs.Plain.{both_true, some_alone}
 
 -- the slot of a live claim on a sample
 pub record SlotOn (claims : List ClaimState) (place track index : ℕ) : Type 0 where

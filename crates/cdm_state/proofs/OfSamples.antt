@@ -25,9 +25,7 @@ use Rattle.cdm_state.proofs.FedOn.{fed_since}
 use Rattle.cdm_state.proofs.OutOn.{out_more}
 use Rattle.cdm_state.proofs.Resuming.{change_found, map_found, feed_found, resumed_same_id}
 use Rattle.cdm_state.proofs.Progress.{keeps}
-
-some_alone : {A : Type 0} (x y : A) → Some x ≡ Some y → x ≡ y
-some_alone x y e = cc
+use Rattle.cdm_state.proofs.Plain.{some_alone}
 
 pub live_of_sample : LiveClaimsAreOfTheirSamples
 unfolding IsLegal

@@ -30,19 +30,17 @@ use Rattle.cdm_state.proofs.TrackLists.{changed_state, out_state}
 use Rattle.cdm_state.proofs.Legal.{legal_left, legal_ended, legal_claimed}
 use Rattle.cdm_state.proofs.Claiming.{pick_holds}
 use Rattle.cdm_state.proofs.May.{may_claim, may_publish, may_pass, may_wait, claim_picked, stands_at}
+use Rattle.cdm_state.proofs.Plain.{nothing_there}
 
 -- a new core
 pub legal_new : (ids : List ℕ) (h : List Entry) (did : List (List Effect)) (m : Machine) (ts : List FedTrack) (claims : List ClaimState) → h ≡ [] → did ≡ [] → m ≡ empty_machine → map track_of ts ≡ map empty_track ids → claims ≡ [] → LegalKept ids h did (world_of m ts) claims
 unfolding world IsLegal effects_in
 legal_new ids h did m ts claims none nothing empty states unclaimed = rw (none, nothing, unclaimed) (record {
-  legal = λ n e at. absurd (absent n e at);
+  legal = λ n e at. absurd (nothing_there n e at);
   state = ap (λ (k : Machine). let w : World = record { machine = k; tracks = map track_of ts } in w) empty ∙ ap (λ (xs : List TrackState). let w : World = record { machine = empty_machine; tracks = xs } in w) states;
   effects = refl;
-  claims = record { live = λ s there. absurd there; all = λ place live. absurd (absent (place - 1) live.0 live.2.at.1); clear = λ s there. absurd there; once = tt };
+  claims = record { live = λ s there. absurd there; all = λ place live. absurd (nothing_there (place - 1) live.0 live.2.at.1); clear = λ s there. absurd there; once = tt };
 })
-  where
-    absent : (n : ℕ) (e : Entry) → slice_get [] n ≡ Some e → ⊥
-    absent n e at = cc
 
 pub legal_settle : (ids : List ℕ) (h g : List Entry) (did more : List (List Effect)) (fx : List Effect) (line : ℕ) (m : Machine) (ts : List FedTrack) (claims : List ClaimState) → LegalKept ids h did (world_of m ts) claims → AtRest (world_of m ts) → g ≡ h ++ Settle line ∷ [] → fx ≡ [] → more ≡ did ++ fx ∷ [] → LegalKept ids g more (world_of m ts) claims
 legal_settle ids h g did more fx line m ts claims kept rest is fxs moreis =

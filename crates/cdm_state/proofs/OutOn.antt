@@ -32,16 +32,16 @@ use Rattle.key_claims.specs.Changes.{changed_at, more_out, find_fed, outputs_of}
 use Rattle.key_claims.proofs.Readiness.{clear_of}
 use Rattle.cdm_state.proofs.ShownOn.{one_out}
 use Rattle.cdm_state.proofs.Histories.{world_more, legal_induction}
-use Rattle.cdm_state.proofs.Live.{at_within, In-filtered}
-use Rattle.cdm_state.proofs.Claiming.{In-either, given_from}
+use Rattle.cdm_state.proofs.Live.{at_within}
+use Rattle.cdm_state.proofs.Claiming.{given_from}
 use Rattle.cdm_state.proofs.TrackLists.{no_track, track_none, same_yes, seen, found_state}
 use Rattle.cdm_state.proofs.TrackLists.{same_yes}
 use Rattle.cdm_state.proofs.TrackIds.{id_of, state_id, states_ids, world_ids, among_at, and_both, not_true}
 use Rattle.cdm_state.proofs.May.{known_at, may_publish, any_default}
 use Rattle.cdm_state.proofs.FedOn.{fed_stays, fed_since, claimed_fed}
-
-some_alone : {A : Type 0} (x y : A) → Some x ≡ Some y → x ≡ y
-some_alone x y e = cc
+use Rattle.cdm_state.proofs.Plain.{same_number, some_alone}
+use Rattle.cdm_world.proofs.Members.{In_filter, In_more}
+use Rattle.cdm_state.proofs.EntryOf.{track_same, index_same, session_same, kid_same}
 
 out_from_append : (ids : List ℕ) (g : List Entry) (t : ℕ) (hs es : List Entry) → out_from ids g t (hs ++ es) ≡ out_from ids g t hs ++ out_from ids (g ++ hs) t es
 out_from_append ids g t [] es = ap (λ (x : List Entry). out_from ids x t es) (sym (append-nil g))
@@ -79,13 +79,13 @@ out_plain ids h g e did w ts us claims new kept was is none same fewer = record 
 }
 
 pub fewer_filter : (p : ClaimState → Bool) (claims new : List ClaimState) → new ≡ filter p claims → (s : ClaimState) (b : List ℕ) → In new s → s.clear ≡ Some b → In claims s
-fewer_filter p claims new is s b there clear = (In-filtered p claims s (subst (λ (l : List ClaimState). In l s) is there)).0
+fewer_filter p claims new is s b there clear = (In_filter p claims s (subst (λ (l : List ClaimState). In l s) is there)).0
 
 pub fewer_same : (claims : List ClaimState) (s : ClaimState) (b : List ℕ) → In claims s → s.clear ≡ Some b → In claims s
 fewer_same claims s b there clear = there
 
 pub fewer_added : (claims new : List ClaimState) (n : ClaimState) → new ≡ claims ++ n ∷ [] → n.clear ≡ None → (s : ClaimState) (b : List ℕ) → In new s → s.clear ≡ Some b → In claims s
-fewer_added claims new n is none s b there clear = elim (In-either claims n s (subst (λ (l : List ClaimState). In l s) is there)) [
+fewer_added claims new n is none s b there clear = elim (In_more claims n s (subst (λ (l : List ClaimState). In l s) is there)) [
   | inl old ↦ old
   | inr same ↦ (let z : None ≡ Some b = sym none ∙ (ap (λ (x : ClaimState). x.clear) same ∙ clear) in absurd cc)
 ]
@@ -137,18 +137,6 @@ out_taken ids h g did w ts claims new c clear kept was st is_clear_ is given = r
       ]);
 }
   where
-    track_same : (o : ClaimState) (c : Held) (kid : List ℕ) → entry_of o ≡ Claim c.worker c.track c.index c.session kid → o.track ≡ c.track
-    track_same o c kid e = cc
-
-    index_same : (o : ClaimState) (c : Held) (kid : List ℕ) → entry_of o ≡ Claim c.worker c.track c.index c.session kid → o.index ≡ c.index
-    index_same o c kid e = cc
-
-    session_same : (o : ClaimState) (c : Held) (kid : List ℕ) → entry_of o ≡ Claim c.worker c.track c.index c.session kid → o.session ≡ c.session
-    session_same o c kid e = cc
-
-    kid_same : (o : ClaimState) (c : Held) (kid : List ℕ) → entry_of o ≡ Claim c.worker c.track c.index c.session kid → o.kid ≡ kid
-    kid_same o c kid e = cc
-
     track_of_entry : (s o : ClaimState) → entry_of s ≡ entry_of o → s.track ≡ o.track
     track_of_entry s o e = cc
 
@@ -267,14 +255,11 @@ out_start ids t = refl
 out_unknown : (ids : List ℕ) (t : ℕ) (h : List Entry) → is_among ids t ≡ false → IsLegal ids h → out ids h t ≡ []
 out_unknown ids t h none legal = legal_induction ids (λ g. out ids g t ≡ []) (out_start ids t) (λ g e l may was. out_more ids g e t ∙ (ap (λ (ys : List (List ℕ)). ys ++ output_of ids g t e) was ∙ nothing_put ids g t e none may)) h legal
 
-number : (a b : ℕ) → eqb a b ≡ true → a ≡ b
-number a b e = elim (eqb_tells a b) [ inl p ↦ p.1 | inr p ↦ absurd (true≢false (sym e ∙ p.0)) ]
-
 out_find : (ids : List ℕ) (h : List Entry) (ts : List FedTrack) (id k : ℕ) (t : FedTrack) → ((n : ℕ) (d : FedTrack) → n < length ts → (get_or ts n d).outputs ≡ out ids h (get_or ts n d).id) → find_fed ts id ≡ Some t → t.outputs ≡ out ids h id
 out_find ids h [] id k t shows e = absurd cc
 out_find ids h (u ∷ ts) id k t shows e = go (eqb u.id id) refl e (λ f. out_find ids h ts id k t (λ n d lt. shows (suc n) d (omega arith)) f) where
   go : (b : Bool) → eqb u.id id ≡ b → (if b then Some u else find_fed ts id) ≡ Some t → (find_fed ts id ≡ Some t → t.outputs ≡ out ids h id) → t.outputs ≡ out ids h id
-  go true is e again = (let same : u ≡ t = some_alone _ _ e in subst (λ (x : FedTrack). x.outputs ≡ out ids h id) same (shows 0 u (omega arith) ∙ ap (λ (n : ℕ). out ids h n) (number u.id id is)))
+  go true is e again = (let same : u ≡ t = some_alone _ _ e in subst (λ (x : FedTrack). x.outputs ≡ out ids h id) same (shows 0 u (omega arith) ∙ ap (λ (n : ℕ). out ids h n) (same_number u.id id is)))
   go false is e again = again e
 
 -- what is out on the track that an id finds, and nothing on one that is not there

@@ -17,6 +17,9 @@ use Rattle.cdm_state.specs.Kept.{all_awake, RoomKept, KeptAs}
 use Rattle.cdm_state.specs.History.{Spends, Undelivered, fed_samples, fed_samples_of, MayFeedNext, samples_in}
 use Rattle.eme_types.specs.declared.media.Fragment.{Fragment}
 use Rattle.cdm_state.proofs.TrackLists.{awake_within, GivesOut, Sleeps, Grown}
+use Rattle.cdm_state.proofs.Plain.{nothing_there}
+use Rattle.cdm_world.proofs.ItemsAt.{get_left, get_here}
+use Rattle.cdm_world.proofs.Members.{In_left, In_right}
 
 -- where the items of a list with one more stand
 pub either_place : (h : List Entry) (e : Entry) (n : ℕ) (x : Entry) → slice_get (h ++ e ∷ []) n ≡ Some x → ((slice_get h n ≡ Some x) × (take n (h ++ e ∷ []) ≡ take n h)) ⊎ ((x ≡ e) × (take n (h ++ e ∷ []) ≡ h) × (n ≡ length h))
@@ -27,13 +30,10 @@ either_place (y ∷ h) e (suc n) x at =
     elim (either_place h e n x at) [ inl p ↦ inl (p.0, ap (λ ys. y ∷ ys) p.1) | inr p ↦ inr (p.0, ap (λ ys. y ∷ ys) p.1, ap suc p.2) ]
 
 pub slice_get_left : (h : List Entry) (e x : Entry) (n : ℕ) → slice_get h n ≡ Some x → slice_get (h ++ e ∷ []) n ≡ Some x
-slice_get_left [] e x n at = absurd cc
-slice_get_left (y ∷ h) e x zero at = at
-slice_get_left (y ∷ h) e x (suc n) at = slice_get_left h e x n at
+slice_get_left h e x n at = get_left h (e ∷ []) n x at
 
 pub slice_get_last : (h : List Entry) (e : Entry) → slice_get (h ++ e ∷ []) (length h) ≡ Some e
-slice_get_last [] e = refl
-slice_get_last (x ∷ h) e = slice_get_last h e
+slice_get_last h e = get_here h e []
 
 -- the entry is no claim
 abbrev pub IsPlain : Entry → Type 0
@@ -54,15 +54,6 @@ waited_or_new h e c u =
       | inl p ↦ inl (record { worker = u.worker; track = u.track; index = u.index; session = u.session; kid = u.kid; at = (u.at.0, p.0); none = λ n x at. u.none n x (slice_get_left h e x n at) })
       | inr p ↦ inr (omega (arith, u.at.0, p.2))
     ]
-
-pub In-left : {A : Type 0} (xs ys : List A) (x : A) → In xs x → In (xs ++ ys) x
-In-left [] ys x at = absurd at
-In-left (y ∷ xs) ys x (inl e) = inl e
-In-left (y ∷ xs) ys x (inr at) = inr (In-left xs ys x at)
-
-pub In-last : {A : Type 0} (xs : List A) (x : A) → In (xs ++ x ∷ []) x
-In-last [] x = inl refl
-In-last (y ∷ xs) x = inr (In-last xs x)
 
 abbrev pub other : ℕ → ℕ → Bool
 other place p = not (p == place)
@@ -108,8 +99,8 @@ kept_claim h g e ts undelivered more place is none here added kept = rw (is, add
   limit = omega (arith, fed_more h e, none, kept.limit);
   fed = omega (arith, fed_more h e, none, kept.fed);
   waits = λ c u. elim (waited_or_new h e c u) [
-    | inl b ↦ In-left undelivered (place ∷ []) c (kept.waits c b)
-    | inr n ↦ (let same : place ≡ c = here ∙ sym n in subst (λ (x : ℕ). In (undelivered ++ place ∷ []) x) same (In-last undelivered place))
+    | inl b ↦ In_left undelivered (place ∷ []) c (kept.waits c b)
+    | inr n ↦ (let same : place ≡ c = here ∙ sym n in subst (λ (x : ℕ). In (undelivered ++ place ∷ []) x) same (In_right undelivered (place ∷ []) place (inl refl)))
   ];
 })
 
@@ -157,11 +148,8 @@ pub kept_new : (h : List Entry) (ts : List FedTrack) (undelivered : List ℕ) �
 kept_new h ts undelivered none unfed = rw none (record {
   limit = omega arith;
   fed = omega (arith, unfed);
-  waits = λ c u. absurd (nothing (c - 1) _ u.at.1);
+  waits = λ c u. absurd (nothing_there (c - 1) _ u.at.1);
 })
-  where
-    nothing : (n : ℕ) (x : Entry) → slice_get [] n ≡ Some x → ⊥
-    nothing n x e = cc
 
 pub same_count : (f : Option Fragment) → sum_by part_samples (parts_in f) ≡ samples_in f
 same_count None = refl

@@ -32,9 +32,7 @@ use Rattle.cdm_state.proofs.FedOn.{fed_since}
 use Rattle.cdm_state.specs.Waiting.{resume_queued}
 use Rattle.cdm_state.proofs.Usable.{held_picked}
 use Rattle.cdm_state.proofs.Resuming.{all_asleep}
-
-some_alone : {A : Type 0} (x y : A) → Some x ≡ Some y → x ≡ y
-some_alone x y e = cc
+use Rattle.cdm_state.proofs.Plain.{nothing_there, some_alone}
 
 -- After each legal history some list of claims is just the live ones.
 
@@ -77,9 +75,6 @@ keeps_more ids h (Publish track index place) legal may k = keeps_ended ids h (Pu
 keeps_more ids h (PassClear track index) legal may k = keeps_left ids h (PassClear track index) (λ cs. record { plain = λ w t i n k x. cc; ends = λ p x. x; spends = λ s there x. x }) k
 keeps_more ids h (WaitForKey track) legal may k = keeps_left ids h (WaitForKey track) (λ cs. record { plain = λ w t i n k x. cc; ends = λ p x. x; spends = λ s there x. x }) k
 keeps_more ids h (Settle line) legal may k = keeps_left ids h (Settle line) (λ cs. record { plain = λ w t i n k x. cc; ends = λ p x. x; spends = λ s there x. x }) k
-
-nothing_there : (n : ℕ) (e : Entry) → slice_get [] n ≡ Some e → ⊥
-nothing_there n e at = cc
 
 keeps_none : (ids : List ℕ) → Keeps ids []
 keeps_none ids = ([], record { live = λ s there. absurd there; all = λ place live. absurd (nothing_there (place - 1) live.0 live.2.at.1); clear = λ s there. absurd there; once = tt })

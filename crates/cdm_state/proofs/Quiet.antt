@@ -15,9 +15,7 @@ use Rattle.cdm_state.specs.History.{world, IsLegal, AtRest, LiveOn, Spends, MayC
 use Rattle.cdm_state.specs.Progress.{RestIsQuiet, RestStays, SpendClaims}
 use Rattle.cdm_state.proofs.Resuming.{waits_only}
 use Rattle.cdm_state.proofs.OfSamples.{live_of_sample}
-
-some_alone : {A : Type 0} (x y : A) → Some x ≡ Some y → x ≡ y
-some_alone x y e = cc
+use Rattle.cdm_state.proofs.Plain.{some_alone}
 
 -- where all tracks are so, the one that an id finds is
 all_found : (P : TrackState → Type 0) (ts : List TrackState) (id : ℕ) (t : TrackState) → All P ts → find_track ts id ≡ Some t → P t

@@ -23,9 +23,8 @@ use Rattle.cdm_state.proofs.Histories.{world_more, legal_induction}
 use Rattle.cdm_state.proofs.Live.{live_less, at_within}
 use Rattle.cdm_state.specs.Waiting.{resume_queued, WaitsOnlyForKeys}
 use Rattle.cdm_state.proofs.Usable.{is_held, held_some, Carries, carries_same, carries_call, carries_job, carries_tick, carries_more, carries_task}
-
-some_alone : {A : Type 0} (x y : A) → Some x ≡ Some y → x ≡ y
-some_alone x y e = cc
+use Rattle.cdm_state.proofs.Plain.{some_alone}
+use Rattle.cdm_world.proofs.ItemsAt.{get_left}
 
 -- a live claim of the longer history was live in the shorter one, or is the new entry
 live_or_new : (ids : List ℕ) (h : List Entry) (e : Entry) (place track index : ℕ) → LiveOn ids (h ++ e ∷ []) place track index → LiveOn ids h place track index ⊎ IsOn e track index
@@ -100,11 +99,6 @@ fed_none t = record { waiting = refl; published = refl; head_ = λ s e. e }
 
 fed_then : (t u v : TrackState) → Fed t u → Fed u v → Fed t v
 fed_then t u v a b = record { waiting = b.waiting ∙ a.waiting; published = b.published ∙ a.published; head_ = λ s e. b.head_ s (a.head_ s e) }
-
-get_left : {A : Type 0} (xs ys : List A) (i : ℕ) (x : A) → slice_get xs i ≡ Some x → slice_get (xs ++ ys) i ≡ Some x
-get_left [] ys i x at = absurd cc
-get_left (z ∷ xs) ys zero x at = at
-get_left (z ∷ xs) ys (suc i) x at = get_left xs ys i x at
 
 fed_added : (t : TrackState) (samples : List EncSample) → Fed t (add_samples samples t)
 fed_added t samples = record { waiting = refl; published = refl; head_ = λ s e. get_left t.fed samples t.published s e }

@@ -20,6 +20,7 @@ use Rattle.cdm_state.specs.Kept.{world_of}
 use Rattle.cdm_state.specs.Slots.{is_key, entry_of, holds_still}
 use Rattle.cdm_state.proofs.TrackLists.{same_yes, not_same}
 use Rattle.cdm_state.proofs.Live.{key_is, is_key_same, live_now, at_within}
+use Rattle.cdm_state.proofs.Plain.{some_alone}
 
 -- the claim is under none of these keys
 abbrev outlives : List (ℕ × List ℕ) → ClaimState → Bool
@@ -84,9 +85,6 @@ not_key held key ne = go (is_key held key) refl where
   go : (b : Bool) → is_key held key ≡ b → b ≡ false
   go true e = absurd (ne (key_is held key e))
   go false e = refl
-
-some_alone : (a b : KeyBytes) → Some a ≡ Some b → a ≡ b
-some_alone a b e = cc
 
 -- of claims whose sessions held their keys before the step
 pub lost_revoked : (old new : ℕ → List ℕ → Option KeyBytes) (ls : List (ℕ × List ℕ)) (cs : List ClaimState) → AreLost old new ls → ((c : ClaimState) → In cs c → old c.session c.kid ≡ Some c.key) → revoke_all ls cs ≡ filter (λ c. is_key (new c.session c.kid) c.key) cs

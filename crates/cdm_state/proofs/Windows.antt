@@ -18,9 +18,7 @@ use Rattle.cdm_state.proofs.Histories.{world_more, legal_induction}
 use Rattle.cdm_state.proofs.Live.{live_less, at_within}
 use Rattle.cdm_state.proofs.FedOn.{fed_since}
 use Rattle.cdm_state.proofs.Resuming.{change_found, map_found, feed_found, same_track}
-
-some_alone : {A : Type 0} (x y : A) → Some x ≡ Some y → x ≡ y
-some_alone x y e = cc
+use Rattle.cdm_state.proofs.Plain.{some_alone, nothing_there}
 
 -- a live claim of the longer history was live in the shorter one, or is the new entry
 live_split : (ids : List ℕ) (h : List Entry) (e : Entry) (place track index : ℕ) → LiveOn ids (h ++ e ∷ []) place track index → LiveOn ids h place track index ⊎ (IsOn e track index × (place ≡ length h + 1))
@@ -176,9 +174,7 @@ windowed_more ids h e legal may w = record {
 }
 
 none_live : (ids : List ℕ) (place track index : ℕ) → LiveOn ids [] place track index → ⊥
-none_live ids place track index on = absent (place - 1) on.claim on.live.at.1 where
-  absent : (n : ℕ) (e : Entry) → slice_get [] n ≡ Some e → ⊥
-  absent n e at = cc
+none_live ids place track index on = nothing_there (place - 1) on.claim on.live.at.1
 
 windowed_start : (ids : List ℕ) → Windowed ids []
 windowed_start ids = record { one = λ track index p q a b. absurd (none_live ids p track index a); within = λ track index p t a found. absurd (none_live ids p track index a) }

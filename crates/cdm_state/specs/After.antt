@@ -15,6 +15,7 @@ use Rattle.key_sessions.specs.Tasks.{after_tick}
 use Rattle.cdm_world.specs.Tracks.{change_track, one_more, set_waiting, feed_parts}
 use Rattle.key_sessions.specs.World.{World, Stepped, acted, unseen, task_step}
 
+-- `encrypted` is to be fired for the initialization data
 abbrev pub fire_encrypted : InitData → Queued
 fire_encrypted init = Fire (Encrypted init)
 
@@ -31,6 +32,7 @@ publish_step w track = record w { tracks = change_track w.tracks track one_more 
 abbrev pub wait_step : World → ℕ → World
 wait_step w track = record { machine = queue_task (Fire (WaitingForKey track)) w.machine; tracks = change_track w.tracks track set_waiting }
 
+-- what each entry does to the state, and of that what the application can see
 abbrev pub step : World → Entry → Stepped
 step w (Call lane line call) = acted w (after_call call w.machine)
 step w Job = acted w (after_job w.machine)
@@ -45,8 +47,10 @@ step w (PassClear track index) = unseen (publish_step w track)
 step w (WaitForKey track) = unseen (wait_step w track)
 step w (Settle line) = unseen w
 
+-- the state after the entry
 abbrev pub after_entry : World → Entry → World
 after_entry w e = (step w e).world
 
+-- what the entry does that the application can see
 abbrev pub effects_of : World → Entry → List Effect
 effects_of w e = (step w e).effects

@@ -9,7 +9,7 @@ use Rattle.eme_types.specs.declared.entry.Entry.{Entry}
 use Rattle.eme_types.specs.declared.entry.Entry.TheVariants.{Call, Job, Task, Tick, Feed, Claim, Deliver, GiveUp, Publish, PassClear, WaitForKey, Settle}
 use Rattle.eme_types.specs.declared.entry.Verdict.TheVariants.{Taken}
 use Rattle.eme_types.specs.Fed.{are_known, are_well_formed, fragment_samples, fragment_bytes}
-use Rattle.eme_types.specs.declared.limits.TheConstants.{MAX_SAMPLES, MAX_SAMPLE_BYTES}
+use Rattle.eme_types.specs.declared.limits.TheConstants.{MAX_SAMPLES, MAX_SAMPLE_BYTES, CLAIM_WINDOW}
 use Rattle.key_sessions.specs.Keys.{held_key, pick}
 use Rattle.cdm_world.specs.Tracks.{TrackState, TrackAtRest, find_track, head}
 use Rattle.key_sessions.specs.World.{World, empty_world}
@@ -106,7 +106,7 @@ pub record AtRest (w : World) : Type 0 where
   pub tasks : w.machine.tasks ≡ []
   pub tracks : All (TrackAtRest (pick w.machine)) w.tracks
 
--- a claim on a fed, protected sample of the window of 16, under the pick of its key id
+-- a claim on a fed, protected sample of the window, under the pick of its key id
 pub record MayClaim (ids : List ℕ) (h : List Entry) (track index session : ℕ) (kid : List ℕ) : Type 0 where
   pub state : TrackState
   pub known : find_track (world ids h).tracks track ≡ Some state
@@ -116,7 +116,7 @@ pub record MayClaim (ids : List ℕ) (h : List Entry) (track index session : ℕ
   pub protected : sample.protect ≡ Some protect
   pub same_id : protect.kid ≡ kid
   pub from : state.published ≤ index
-  pub window : index < state.published + 16
+  pub window : index < state.published + CLAIM_WINDOW
   pub awake : state.waiting ≡ false
   pub key : KeyBytes
   pub picked : pick (world ids h).machine kid ≡ Some (session, key)
@@ -161,14 +161,17 @@ pub record MayWait (ids : List ℕ) (h : List Entry) (track : ℕ) : Type 0 wher
   pub unpicked : pick (world ids h).machine protect.kid ≡ None
   pub free : (place : ℕ) → LiveOn ids h place track state.published → ⊥
 
+-- the samples of a feed
 abbrev pub samples_in : Option Fragment → ℕ
 samples_in None = 0
 samples_in (Some f) = fragment_samples f
 
+-- the bytes of its samples
 abbrev pub bytes_in : Option Fragment → ℕ
 bytes_in None = 0
 bytes_in (Some f) = fragment_bytes f
 
+-- the samples that the entry feeds
 abbrev pub fed_samples_of : Entry → ℕ
 fed_samples_of (Call lane line call) = 0
 fed_samples_of Job = 0
@@ -183,6 +186,7 @@ fed_samples_of (PassClear track index) = 0
 fed_samples_of (WaitForKey track) = 0
 fed_samples_of (Settle line) = 0
 
+-- the bytes that the entry feeds
 abbrev pub fed_bytes_of : Entry → ℕ
 fed_bytes_of (Call lane line call) = 0
 fed_bytes_of Job = 0
@@ -197,10 +201,11 @@ fed_bytes_of (PassClear track index) = 0
 fed_bytes_of (WaitForKey track) = 0
 fed_bytes_of (Settle line) = 0
 
--- the totals of all that was fed
+-- the samples of all that was fed
 abbrev pub fed_samples : List Entry → ℕ
 fed_samples h = sum_by fed_samples_of h
 
+-- their bytes
 abbrev pub fed_bytes : List Entry → ℕ
 fed_bytes h = sum_by fed_bytes_of h
 
@@ -211,6 +216,7 @@ pub record MayFeed (ids : List ℕ) (h : List Entry) (f : Fragment) : Type 0 whe
   pub samples : fed_samples h + fragment_samples f ≤ MAX_SAMPLES
   pub bytes : fed_bytes h + fragment_bytes f ≤ MAX_SAMPLE_BYTES
 
+-- a fragment that may be fed, or none
 abbrev pub MayFeedNext : List ℕ → List Entry → Option Fragment → Type 0
 MayFeedNext ids h None = Unit {0}
 MayFeedNext ids h (Some f) = MayFeed ids h f

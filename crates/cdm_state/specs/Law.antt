@@ -2,6 +2,7 @@
 use Rattle.std.specs.Prelude.{ℕ, ◌≡◌, ◌≤◌, ◌<◌, ◌+◌, ◌++◌, List, length, slice_get, Some}
 use Rattle.eme_types.specs.declared.entry.Entry.{Entry}
 use Rattle.eme_types.specs.declared.entry.Entry.TheVariants.{Tick}
+use Rattle.eme_types.specs.declared.limits.TheConstants.{CLAIM_WINDOW}
 use Rattle.key_sessions.specs.Owed.{IsOwed}
 use Rattle.cdm_world.specs.Tracks.{TrackState, find_track}
 use Rattle.cdm_state.specs.History.{world, IsLegal, AtRest, LiveOn}
@@ -28,9 +29,9 @@ OwesEachOnce = (ids : List ℕ) (h : List Entry) → IsLegal ids h → IsOwed (w
 abbrev pub ClaimsEachOnce : Type 0
 ClaimsEachOnce = (ids : List ℕ) (h : List Entry) (track index p q : ℕ) → IsLegal ids h → LiveOn ids h p track index → LiveOn ids h q track index → p ≡ q
 
--- the index of a live claim is at least the published count of its track and below it plus 16
+-- the index of a live claim is at least the published count of its track and in the window behind it
 abbrev pub ClaimsInTheWindow : Type 0
-ClaimsInTheWindow = (ids : List ℕ) (h : List Entry) (track index p : ℕ) (t : TrackState) → IsLegal ids h → LiveOn ids h p track index → find_track (world ids h).tracks track ≡ Some t → (t.published ≤ index) × (index < t.published + 16)
+ClaimsInTheWindow = (ids : List ℕ) (h : List Entry) (track index p : ℕ) (t : TrackState) → IsLegal ids h → LiveOn ids h p track index → find_track (world ids h).tracks track ≡ Some t → (t.published ≤ index) × (index < t.published + CLAIM_WINDOW)
 
 -- each front of a legal history is legal
 abbrev pub FrontsAreLegal : Type 0

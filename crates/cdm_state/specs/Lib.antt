@@ -1,3 +1,4 @@
+pub mod Bound
 pub mod After
 pub mod History
 pub mod Output
@@ -10,6 +11,7 @@ pub mod Law
 pub mod Slots
 pub mod Feeds
 pub mod Contract
+pub mod Does
 pub mod Claims
 pub mod Shown
 pub mod Kept

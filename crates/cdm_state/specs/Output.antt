@@ -10,6 +10,7 @@ use Rattle.cdm_world.specs.Tracks.{TrackState, find_track}
 use Rattle.key_sessions.specs.World.{World}
 use Rattle.cdm_state.specs.History.{world}
 
+-- the sample at an index of a track, if both are there
 abbrev pub fed_at : Option TrackState → ℕ → Option EncSample
 fed_at None index = None
 fed_at (Some t) index = slice_get t.fed index
@@ -38,11 +39,13 @@ key_for w (Some (Settle line)) = None
 abbrev pub claim_key : List ℕ → List Entry → ℕ → Option KeyBytes
 claim_key ids h place = key_for (world ids (take place h)) (slice_get h (place - 1))
 
+-- the sample decrypted, if it and its key are there
 abbrev pub opened : Option EncSample → Option KeyBytes → List (List ℕ)
 opened None key = []
 opened (Some sample) None = []
 opened (Some sample) (Some key) = decryption sample key ∷ []
 
+-- the bytes of a clear sample, if it is there
 abbrev pub data_of : Option EncSample → List (List ℕ)
 data_of None = []
 data_of (Some sample) = sample.bytes ∷ []

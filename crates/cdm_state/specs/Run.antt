@@ -2,6 +2,7 @@
 use Rattle.std.specs.Prelude.{ℕ, List, [], ◌∷◌, ◌++◌}
 use Rattle.eme_types.specs.declared.entry.Entry.{Entry}
 
+-- the track ids and the entries
 pub record Run : Type 0 where
   pub tracks : List ℕ
   pub history : List Entry

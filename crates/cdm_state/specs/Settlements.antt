@@ -22,6 +22,7 @@ abbrev pub settling : ℕ → Entry → List Effect → List Entry
 settling p e [] = []
 settling p e (x ∷ xs) = if settles p x then e ∷ settling p e xs else settling p e xs
 
+-- the entries of these that settle the promise, from a world on
 abbrev pub settlements_from : World → ℕ → List Entry → List Entry
 settlements_from w p [] = []
 settlements_from w p (e ∷ es) = settling p e (effects_of w e) ++ settlements_from (after_entry w e) p es
@@ -30,6 +31,7 @@ settlements_from w p (e ∷ es) = settling p e (effects_of w e) ++ settlements_f
 unfoldable pub settlements : List ℕ → List Entry → ℕ → List Entry
 settlements ids h p = settlements_from (empty_world ids) p h
 
+-- 1 for a call, 0 for another entry
 abbrev pub is_call : Entry → ℕ
 is_call (Call lane line call) = 1
 is_call Job = 0

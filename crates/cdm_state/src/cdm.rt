@@ -1,16 +1,16 @@
 // The history, and the state after it.
-ghost use Rattle.std.specs.Prelude.{◌≡◌, ◌<◌, ◌≤◌, ◌+◌, ◌-◌, [], OnOk, OnErr, IfErr, IsErrOf, IfOk, ◌↔◌, IsTrue, ◌≢◌, MatchOption, Some, None, ℕ, List, length};
+ghost use Rattle.std.specs.Prelude.{◌≡◌, ◌<◌, ◌≤◌, ◌-◌, [], OnErr, IsErrOf, IfOk, ◌↔◌, IsTrue, ◌≢◌, MatchOption, Some, None, length};
 ghost use Rattle.std.specs.Prelude.{slice_get, map, ◌⊎◌, if◌then◌else◌};
 ghost use Rattle.eme_types.specs.Fed.{are_distinct};
 ghost use Rattle.eme_types.specs.declared.limits.TheConstants.{MAX_TRACKS};
-ghost use Rattle.eme_types.specs.declared.entry.Entry.TheVariants.{Call as CallEntry, Job as JobEntry, Task as TaskEntry, Tick, Feed, GiveUp, Publish, PassClear, WaitForKey, Settle};
 ghost use Rattle.sample_crypt.specs.Decryption.{decryption};
 ghost use Rattle.cdm_world.specs.Tracks.{find_track, is_waiting};
-ghost use Rattle.cdm_state.specs.History.{world, IsLegal, AtRest, MayFeedNext, MayClaim, MayPublish, MayPassClear, MayWait};
-ghost use Rattle.cdm_state.specs.Settlements.{effects_in, calls_in};
+ghost use Rattle.cdm_state.specs.History.{world, IsLegal, MayFeedNext};
+ghost use Rattle.cdm_state.specs.Settlements.{effects_in};
 ghost use Rattle.cdm_state.specs.Output.{out};
-ghost use Rattle.cdm_state.specs.Contract.{IsOpen, Claims, ComesFirst, Delivers, HasNotSettled};
-ghost use Rattle.cdm_state.specs.Run.{Run, with_entry};
+ghost use Rattle.cdm_state.specs.Contract.{IsOpen};
+ghost use Rattle.cdm_state.specs.Does.{CallDoes, JobDoes, TaskDoes, TickDoes, FeedDoes, ClaimDoes, DeliverDoes, GiveUpDoes, PublishDoes, PassClearDoes, WaitDoes, SettleDoes};
+ghost use Rattle.cdm_state.specs.Run.{Run};
 ghost use Rattle.key_sessions.specs.Keys.{pick};
 ghost use Rattle.key_claims.specs.Changes.{resumed_one};
 ghost use Rattle.key_claims.specs.Choice.{NoWork};
@@ -141,10 +141,7 @@ impl Cdm {
 
     /// A call of the application, and the number of its promise.
     pub fn call(&mut self, lane: u8, line: u32, call: AppCall) -> Result<u64, CallBack>
-        ensures ok { OnOk result (self.new ≡ with_entry self.old (CallEntry lane line call)) }
-        ensures number { IfOk result (λ p. p ≡ calls_in self.old.history + 1) }
-        ensures err { OnErr result (self.new ≡ self.old) }
-        ensures back { IfErr result (λ b. b.call ≡ call) }
+        ensures { CallDoes lane line call self.old result self.new }
     {
         if self.parts.reserve(1).is_err() {
             return Err(CallBack {
@@ -163,9 +160,7 @@ impl Cdm {
 
     /// The front job runs.
     pub fn job(&mut self) -> Result<(), StepFault>
-        ensures ok { OnOk result (self.new ≡ with_entry self.old JobEntry) }
-        ensures err { OnErr result (self.new ≡ self.old) }
-        ensures empty { IsErrOf result StepFault.Empty ↔ ((world self.old.tracks self.old.history).machine.jobs ≡ []) }
+        ensures { JobDoes self.old result self.new }
     {
         if !self.parts.sessions.job_left() {
             return Err(StepFault::Empty);
@@ -178,9 +173,7 @@ impl Cdm {
 
     /// The front task runs.
     pub fn task(&mut self) -> Result<(), StepFault>
-        ensures ok { OnOk result (self.new ≡ with_entry self.old TaskEntry) }
-        ensures err { OnErr result (self.new ≡ self.old) }
-        ensures empty { IsErrOf result StepFault.Empty ↔ ((world self.old.tracks self.old.history).machine.tasks ≡ []) }
+        ensures { TaskDoes self.old result self.new }
     {
         if !self.parts.sessions.task_left() {
             return Err(StepFault::Empty);
@@ -198,8 +191,7 @@ impl Cdm {
     /// The moment is set, in milliseconds.
     pub fn tick(&mut self, line: u32, moment: u64) -> Result<(), AllocError>
         requires { (world self.old.tracks self.old.history).machine.moment ≤ moment }
-        ensures ok { OnOk result (self.new ≡ with_entry self.old (Tick line moment)) }
-        ensures err { OnErr result (self.new ≡ self.old) }
+        ensures { TickDoes line moment self.old result self.new }
     {
         self.parts.reserve(1)?;
         self.parts.sessions.tick(moment)?;
@@ -210,9 +202,7 @@ impl Cdm {
     /// A fragment is fed, or none is left.
     pub fn feed(&mut self, line: u32, fragment: Option<Fragment>) -> Result<(), FeedBack>
         requires { MayFeedNext self.old.tracks self.old.history fragment }
-        ensures ok { OnOk result (self.new ≡ with_entry self.old (Feed line fragment)) }
-        ensures err { OnErr result (self.new ≡ self.old) }
-        ensures back { IfErr result (λ b. b.fragment ≡ fragment) }
+        ensures { FeedDoes line fragment self.old result self.new }
     {
         let events = match self.parts.take_in(self.alloc, &fragment) {
             Err(error) => return Err(FeedBack { fragment, error }),
@@ -227,9 +217,7 @@ impl Cdm {
 
     /// The first track that has a sample to claim gives the one of least index.
     pub fn claim(&mut self, worker: u8) -> Result<Claim, ClaimFault>
-        ensures ok { IfOk result (λ c. Claims self.old worker c self.new) }
-        ensures err { OnErr result (self.new ≡ self.old) }
-        ensures no_work { IsErrOf result ClaimFault.NoWork → (track index session : ℕ) (kid : List ℕ) → MayClaim self.old.tracks self.old.history track index session kid → ⊥ }
+        ensures { ClaimDoes worker self.old result self.new }
     {
         if self.parts.reserve(2).is_err() {
             return Err(ClaimFault::OutOfMemory);
@@ -258,7 +246,7 @@ impl Cdm {
     pub fn deliver(&mut self, claim: Claim, clear: Bytes) -> Delivered
         requires open_ { IsOpen self.old claim }
         requires clear { clear ≡ decryption claim.sample claim.key }
-        ensures { Delivers self.old claim.place clear result self.new }
+        ensures { DeliverDoes claim.place clear self.old result self.new }
     {
         let place = claim.place;
         close_place(&mut self.parts.undelivered, place);
@@ -283,7 +271,7 @@ impl Cdm {
     /// A claim is given up.
     pub fn give_up(&mut self, claim: Claim)
         requires { IsOpen self.old claim }
-        ensures { self.new ≡ with_entry self.old (GiveUp claim.place) }
+        ensures { GiveUpDoes claim.place self.old result self.new }
     {
         let place = claim.place;
         close_place(&mut self.parts.undelivered, place);
@@ -293,30 +281,21 @@ impl Cdm {
 
     /// The first track whose next sample was delivered under a live claim gives it out.
     pub fn publish(&mut self) -> Result<Published, NotReady>
-        ensures ok { IfOk result (λ p. (place : ℕ) × (self.new ≡ with_entry self.old (Publish p.track p.index place))) }
-        ensures first { IfOk result (λ p. (track index place : ℕ) → MayPublish self.old.tracks self.old.history track index place → ComesFirst self.old.tracks p.track track) }
-        ensures err { OnErr result (self.new ≡ self.old) }
-        ensures not_ready { OnErr result ((track index place : ℕ) → MayPublish self.old.tracks self.old.history track index place → ⊥) }
+        ensures { PublishDoes self.old result self.new }
     {
-        let place = match self.parts.tracks.ready() {
-            None => return Err(NotReady),
-            Some(ready) => ready.place,
-        };
-        let published = self.parts.tracks.publish()?;
+        let ready = self.parts.tracks.publish_ready()?;
+        let (track, index, place) = (ready.track, ready.index, ready.place);
         self.parts.chronicle.append_unseen(Entry::Publish {
-            track: published.track,
-            index: published.index,
+            track,
+            index,
             place,
         });
-        Ok(published)
+        Ok(Published { track, index })
     }
 
     /// The first track whose next sample is unprotected gives it out.
     pub fn pass_clear(&mut self) -> Result<Published, NotReady>
-        ensures ok { IfOk result (λ p. self.new ≡ with_entry self.old (PassClear p.track p.index)) }
-        ensures first { IfOk result (λ p. (track index : ℕ) → MayPassClear self.old.tracks self.old.history track index → ComesFirst self.old.tracks p.track track) }
-        ensures err { OnErr result (self.new ≡ self.old) }
-        ensures not_ready { OnErr result ((track index : ℕ) → MayPassClear self.old.tracks self.old.history track index → ⊥) }
+        ensures { PassClearDoes self.old result self.new }
     {
         let next = self.parts.tracks.pass_clear()?;
         self.parts.chronicle.append_unseen(Entry::PassClear {
@@ -328,10 +307,7 @@ impl Cdm {
 
     /// The first track whose head has neither a live claim nor a pick begins to wait.
     pub fn wait_for_key(&mut self) -> Result<u32, NotWaiting>
-        ensures ok { IfOk result (λ t. self.new ≡ with_entry self.old (WaitForKey t)) }
-        ensures first { IfOk result (λ t. (track : ℕ) → MayWait self.old.tracks self.old.history track → ComesFirst self.old.tracks t track) }
-        ensures err { OnErr result (self.new ≡ self.old) }
-        ensures not_waiting { OnErr result ((track : ℕ) → MayWait self.old.tracks self.old.history track → ⊥) }
+        ensures { WaitDoes self.old result self.new }
     {
         let track = self.parts.tracks.wait_for_key(&self.parts.sessions)?;
         self.parts
@@ -345,10 +321,7 @@ impl Cdm {
 
     /// All has settled.
     pub fn settle(&mut self, line: u32) -> Result<(), SettleFault>
-        ensures ok { OnOk result (self.new ≡ with_entry self.old (Settle line)) }
-        ensures rest { OnOk result (AtRest (world self.old.tracks self.old.history)) }
-        ensures fault { IfErr result (HasNotSettled (world self.old.tracks self.old.history)) }
-        ensures err { OnErr result (self.new ≡ self.old) }
+        ensures { SettleDoes line self.old result self.new }
     {
         if self.parts.sessions.job_left() {
             return Err(SettleFault::Job);

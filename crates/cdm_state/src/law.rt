@@ -30,7 +30,7 @@ pub fn promises_are_owed_once()
     ensures { OwesEachOnce }
 {}
 
-/// A sample has at most one live claim, and its index is in the window of 16 behind what its track has published.
+/// A sample has at most one live claim, and its index is in the window behind what its track has published.
 pub fn claims_are_alone_in_the_window()
     ensures once { ClaimsEachOnce }
     ensures window { ClaimsInTheWindow }

@@ -1,6 +1,7 @@
 //! The core: a history of entries, the state after it, and the calls that add to it.
 #![tactic(auto)]
 
+mod book;
 mod cdm;
 mod chronicle;
 mod feed;

@@ -1,5 +1,5 @@
 -- What a history that goes on puts out and does: its front, and what is new.
-use Rattle.std.proofs.Common.{◌≡◌, ℕ, ◌+◌, List, [], ◌∷◌, ◌++◌, length, refl, ap, sym, ◌∙◌, append_assoc, append-nil, length-append}
+use Rattle.std.proofs.Common.{◌≡◌, ℕ, ◌+◌, List, [], ◌∷◌, ◌++◌, length, refl, ap, ◌∙◌, length-append}
 use Rattle.std.specs.Prelude.{count_by}
 use Rattle.std.specs.List.{concat, sum_by, fold}
 use Rattle.std.proofs.lemmas.List.Folds.{concat-append}
@@ -9,8 +9,9 @@ use Rattle.eme_types.specs.declared.entry.Entry.{Entry}
 use Rattle.key_sessions.specs.World.{World, empty_world}
 use Rattle.cdm_state.specs.After.{after_entry, effects_of}
 use Rattle.cdm_state.specs.History.{world}
-use Rattle.cdm_state.specs.Output.{output_of, out_from, out}
+use Rattle.cdm_state.specs.Output.{out_from, out}
 use Rattle.cdm_state.specs.Settlements.{effects_from, effects_in, is_call}
+use Rattle.cdm_state.proofs.OutOn.{out_goes_on}
 use Rattle.output_order.specs.Summary.{resolves, rejects}
 use Rattle.output_order.specs.TrackFile.{file_of}
 use Rattle.output_order.specs.Law.{FileGoesOn, SummaryGoesOn}
@@ -22,16 +23,6 @@ effects_from-append w (x ∷ h) g = ap (λ (fx : List (List Effect)). effects_of
 effects_go_on : (ids : List ℕ) (h g : List Entry) → effects_in ids (h ++ g) ≡ effects_in ids h ++ effects_from (world ids h) g
 unfolding effects_in world
 effects_go_on ids h g = effects_from-append (empty_world ids) h g
-
-out_from-append : (ids : List ℕ) (c : List Entry) (t : ℕ) (h g : List Entry) → out_from ids c t (h ++ g) ≡ out_from ids c t h ++ out_from ids (c ++ h) t g
-out_from-append ids c t [] g = ap (λ (d : List Entry). out_from ids d t g) (sym (append-nil c))
-out_from-append ids c t (x ∷ h) g =
-    ap (λ (ys : List (List ℕ)). output_of ids c t x ++ ys) (out_from-append ids (c ++ x ∷ []) t h g ∙ ap (λ (d : List Entry). out_from ids (c ++ x ∷ []) t h ++ out_from ids d t g) (append_assoc c (x ∷ []) h))
-    ∙ sym (append_assoc (output_of ids c t x) (out_from ids (c ++ x ∷ []) t h) (out_from ids (c ++ x ∷ h) t g))
-
-out_goes_on : (ids : List ℕ) (h g : List Entry) (t : ℕ) → out ids (h ++ g) t ≡ out ids h t ++ out_from ids h t g
-unfolding out
-out_goes_on ids h g t = out_from-append ids [] t h g
 
 pub file_goes_on : FileGoesOn
 unfolding file_of

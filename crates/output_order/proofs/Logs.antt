@@ -62,26 +62,30 @@ fed_at_most_one (Feed line None) = omega arith
 fed_at_most_one (Feed line (Some f)) = omega arith
 fed_at_most_one e = omega arith
 
--- the entry at an index and what it did
-pub record IsEntry (ids : List ℕ) (h : List Entry) (i : ℕ) (e : Entry) (effects : List Effect) : Type 0 where
+-- the line of the entry at an index and the lines of what it did were put behind a text
+pub record IsPut (ids : List ℕ) (h : List Entry) (i fed : ℕ) (e : Entry) (text next : List ℕ) : Type 0 where
   pub within : i < length h
   pub is : e ≡ get_or h i e
+  pub effects : List Effect
   pub did : slice_get (effects_in ids h) i ≡ Some effects
+  pub now : List ℕ
+  pub line : now ≡ text ++ entry_line (i + 1) fed e
+  pub more : next ≡ now ++ effect_lines effects
 
-pub logged_more : (ids : List ℕ) (h : List Entry) (i fed : ℕ) (text now next : List ℕ) (e : Entry) (effects : List Effect) → IsEntry ids h i e effects → IsLogged ids h i fed text → now ≡ text ++ entry_line (i + 1) fed e → next ≡ now ++ effect_lines effects → IsLogged ids h (i + 1) (fed + fragments_fed e) next
-logged_more ids h i fed text now next e effects at l line more =
+pub logged_more : (ids : List ℕ) (h : List Entry) (i fed : ℕ) (e : Entry) (text next : List ℕ) → IsPut ids h i fed e text next → IsLogged ids h i fed text → IsLogged ids h (i + 1) (fed + fragments_fed e) next
+logged_more ids h i fed e text next at l =
     let w : World = world ids (take i h) in
     let v : World = world ids (take (i + 1) h) in
     let x : Entry = get_or h i e in
     let rest : List Entry = drop (i + 1) h in
     let G : Entry → List Effect → World → List ℕ = λ y fx u. entry_line (i + 1) fed y ++ (effect_lines fx ++ lines_from u (i + 1 + 1) (fed + fragments_fed y) rest) in
-    let did : effects ≡ effects_of w x = some_same (sym at.did ∙ effects_at ids h i e at.within) in
+    let did : at.effects ≡ effects_of w x = some_same (sym at.did ∙ effects_at ids h i e at.within) in
     let goes : v ≡ after_entry w x = world_more ids h i e at.within in
     let left : drop i h ≡ x ∷ rest = drop_more h i e at.within in
-    let split : G e effects v ≡ lines_from w (i + 1) fed (drop i h) = ap (λ y. G y effects v) at.is ∙ (ap (λ fx. G x fx v) did ∙ (ap (λ u. G x (effects_of w x) u) goes ∙ sym (ap (λ es. lines_from w (i + 1) fed es) left))) in
+    let split : G e at.effects v ≡ lines_from w (i + 1) fed (drop i h) = ap (λ y. G y at.effects v) at.is ∙ (ap (λ fx. G x fx v) did ∙ (ap (λ u. G x (effects_of w x) u) goes ∙ sym (ap (λ es. lines_from w (i + 1) fed es) left))) in
     let after : List ℕ = lines_from v (i + 1 + 1) (fed + fragments_fed e) rest in
     record {
-      all = put_three text (entry_line (i + 1) fed e) now (effect_lines effects) next after (next ++ after) (lines_from w (i + 1) fed (drop i h)) line more refl split ∙ l.all;
+      all = put_three text (entry_line (i + 1) fed e) at.now (effect_lines at.effects) next after (next ++ after) (lines_from w (i + 1) fed (drop i h)) at.line at.more refl split ∙ l.all;
       few = let one : fragments_fed e ≤ 1 = fed_at_most_one e in let few : fed ≤ i = l.few in omega arith;
     }
 

@@ -18,14 +18,11 @@ use Rattle.player_cli.specs.Written.{WritesCause, IsWritten, IsStopped, KeepsOth
 use Rattle.player_cli.specs.declared.end.End.TheVariants.{Refused}
 use Rattle.player_cli.specs.declared.end.MediaEnd.{MediaEnd}
 use Rattle.player_cli.specs.declared.end.Refusal.TheVariants.{Media as NoMedia}
-use Rattle.player_cli.proofs.ReadInOrder.{untouched_by_reading, both_leave, media_read_before, media_ends_before}
+use Rattle.player_cli.proofs.ReadInOrder.{untouched_by_reading, both_leave, still_tells, media_read_before, media_ends_before}
 use Rattle.player_cli.proofs.TextsAppended.{tells_on}
 
 -- reading changed nothing that writing looks at
 module _ (old mid new : ShelfState) (kept : LeavesShelf old mid) (files : List FileText) (text : List ℕ) where
-  still_tells : IsTrue old.tells_files → IsTrue mid.tells_files
-  still_tells t = subst IsTrue (sym kept.tells.files) t
-
   still_tells_said : IsTrue old.tells_said → IsTrue mid.tells_said
   still_tells_said t = subst IsTrue (sym kept.tells.said) t
 
@@ -37,16 +34,16 @@ module _ (old mid new : ShelfState) (kept : LeavesShelf old mid) (files : List F
 
   written_since : IsWritten mid new files text → IsWritten old new files text
   written_since w = record {
-    texts = λ t. w.texts (still_tells t);
+    texts = λ t. w.texts (still_tells old mid new kept t);
     others = keeps_others (length files) w.others;
     said = λ t. w.said (still_tells_said t) ∙ ap (λ s. s ++ text) kept.said;
     tells = tells_on old mid new kept.tells w.tells;
   }
 
   stopped_since : IsStopped mid new files text → IsStopped old new files text
-  stopped_since (inl (inl s)) = inl (inl (record { n = s.n; within = s.within; texts = λ t. s.texts (still_tells t); others = keeps_others (s.n + 1) s.others; said = s.said ∙ kept.said; tells = tells_on old mid new kept.tells s.tells }))
-  stopped_since (inl (inr s)) = inl (inr (record { n = s.n; within = s.within; texts = λ t. s.texts (still_tells t); front = λ t. s.front (still_tells t); others = keeps_others (s.n + 1) s.others; said = s.said ∙ kept.said; tells = tells_on old mid new kept.tells s.tells }))
-  stopped_since (inr s) = inr (record { texts = λ t. s.texts (still_tells t); others = keeps_others (length files) s.others; said = λ t. subst (λ said. SaidPart said text new.said) kept.said (s.said (still_tells_said t)); tells = tells_on old mid new kept.tells s.tells })
+  stopped_since (inl (inl s)) = inl (inl (record { n = s.n; within = s.within; texts = λ t. s.texts (still_tells old mid new kept t); others = keeps_others (s.n + 1) s.others; said = s.said ∙ kept.said; tells = tells_on old mid new kept.tells s.tells }))
+  stopped_since (inl (inr s)) = inl (inr (record { n = s.n; within = s.within; texts = λ t. s.texts (still_tells old mid new kept t); front = λ t. s.front (still_tells old mid new kept t); others = keeps_others (s.n + 1) s.others; said = s.said ∙ kept.said; tells = tells_on old mid new kept.tells s.tells }))
+  stopped_since (inr s) = inr (record { texts = λ t. s.texts (still_tells old mid new kept t); others = keeps_others (length files) s.others; said = λ t. subst (λ said. SaidPart said text new.said) kept.said (s.said (still_tells_said t)); tells = tells_on old mid new kept.tells s.tells })
 
   -- what the writing says is what the command says
   writing_says : (asked : Asked) → (IsWritten old new files text → HasDone asked old new) → (IsStopped old new files text → HasStopped asked old new)

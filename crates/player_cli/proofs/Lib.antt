@@ -5,4 +5,3 @@ pub mod DistinctNames
 pub mod ReadInOrder
 pub mod CommandEnds
 pub mod DoneWhole
-pub mod SomeKids

@@ -28,17 +28,17 @@ both_leave old mid last p q = record {
 
 -- what a reading says of a shelf that was only read from, it says of the shelf before
 module _ (old mid last : ShelfState) (first : LeavesShelf old mid) where
-  tells_mid : IsTrue old.tells_files → IsTrue mid.tells_files
-  tells_mid t = subst IsTrue (sym first.tells.files) t
+  pub still_tells : IsTrue old.tells_files → IsTrue mid.tells_files
+  still_tells t = subst IsTrue (sym first.tells.files) t
 
   tells_old : IsTrue mid.tells_files → IsTrue old.tells_files
   tells_old t = subst IsTrue first.tells.files t
 
   pub media_read_before : (name : List ℕ) (media : Media) → MediaRead mid name media → MediaRead old name media
-  media_read_before name media r = record { bytes = r.bytes; told = λ t. sym (first.files name) ∙ r.told (tells_mid t); small = r.small; fits = r.fits }
+  media_read_before name media r = record { bytes = r.bytes; told = λ t. sym (first.files name) ∙ r.told (still_tells t); small = r.small; fits = r.fits }
 
   has_more : (name : List ℕ) (limit : ℕ) → HasMore mid name limit → HasMore old name limit
-  has_more name limit more t = let m = more (tells_mid t) in (m.0, sym (first.files name) ∙ m.1, m.2)
+  has_more name limit more t = let m = more (still_tells t) in (m.0, sym (first.files name) ∙ m.1, m.2)
 
   reads_cause : (name : List ℕ) → ReadsCause mid last name → ReadsCause old last name
   reads_cause name (inl rose) = inl (omega (arith, first.later, rose))
@@ -51,4 +51,4 @@ module _ (old mid last : ShelfState) (first : LeavesShelf old mid) where
 
   pub media_ends_before : (end : MediaEnd) (name : List ℕ) → MediaEnds end mid last name → MediaEnds end old last name
   media_ends_before (Unread end) name says = read_ends end name _ says
-  media_ends_before (Refused place rule) name says = record { bytes = says.bytes; told = λ t. sym (first.files name) ∙ says.told (tells_mid t); small = says.small; refused = says.refused }
+  media_ends_before (Refused place rule) name says = record { bytes = says.bytes; told = λ t. sym (first.files name) ∙ says.told (still_tells t); small = says.small; refused = says.refused }

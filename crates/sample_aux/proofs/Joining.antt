@@ -1,5 +1,6 @@
 -- Parts that were joined are of distinct tracks, and keep their samples.
 use Rattle.std.proofs.Common.{◌≡◌, inl, inr, ℕ, ◌+◌, ◌≤◌, Bool, true, false, List, [], ◌∷◌, ◌++◌, map, refl, sym, arith, length-append}
+use Rattle.std.proofs.lemmas.Bool.{and_from}
 use Rattle.std.specs.Prelude.{◌==◌, not, ◌&&◌, ◌||◌, cond, filter}
 use Rattle.std.specs.List.{list_all, sum_by}
 use Rattle.std.proofs.lemmas.Bool.Decides.{eqb_tells}
@@ -15,9 +16,6 @@ use Rattle.sample_aux.specs.Resolve.{put_part, joined}
 pub and_both : (a b : Bool) → (a && b) ≡ true → (a ≡ true) × (b ≡ true)
 and_both true b e = (refl, e)
 and_both false b e = absurd cc
-
-pub both_true : (a b : Bool) → a ≡ true → b ≡ true → (a && b) ≡ true
-both_true a b e f = rw (e, f) refl
 
 or_false : (a : Bool) → (a || false) ≡ a
 or_false true = refl
@@ -54,7 +52,7 @@ distinct_put (q ∷ qs) p e = elim (eqb_tells q.track p.track) [
   | inl h ↦ rw h.0 e
   | inr h ↦
       let both = and_both (not (is_among (map part_track qs) q.track)) (are_distinct (map part_track qs)) e in
-      rw h.0 (rw (among_put qs p q.track, not_equal q.track p.track h.0, or_false (is_among (map part_track qs) q.track)) (both_true _ _ both.0 (distinct_put qs p both.1)))
+      rw h.0 (rw (among_put qs p q.track, not_equal q.track p.track h.0, or_false (is_among (map part_track qs) q.track)) (and_from _ _ both.0 (distinct_put qs p both.1)))
 ]
 
 pub distinct_joined : (qs ps : List TrackPart) → are_distinct (map part_track qs) ≡ true → are_distinct (map part_track (joined qs ps)) ≡ true
@@ -67,10 +65,10 @@ abbrev pub of_track : (ℕ → Bool) → List TrackPart → Bool
 of_track test ps = list_all (λ (p : TrackPart). test p.track) ps
 
 put_of : (test : ℕ → Bool) (qs : List TrackPart) (p : TrackPart) → of_track test qs ≡ true → test p.track ≡ true → of_track test (put_part qs p) ≡ true
-put_of test [] p e f = both_true _ _ f refl
+put_of test [] p e f = and_from _ _ f refl
 put_of test (q ∷ qs) p e f = elim (eqb_tells q.track p.track) [
   | inl h ↦ rw h.0 e
-  | inr h ↦ let both = and_both (test q.track) (of_track test qs) e in rw h.0 (both_true _ _ both.0 (put_of test qs p both.1 f))
+  | inr h ↦ let both = and_both (test q.track) (of_track test qs) e in rw h.0 (and_from _ _ both.0 (put_of test qs p both.1 f))
 ]
 
 pub joined_of : (test : ℕ → Bool) (qs ps : List TrackPart) → of_track test qs ≡ true → of_track test ps ≡ true → of_track test (joined qs ps) ≡ true
@@ -85,12 +83,12 @@ abbrev pub is_formed : TrackPart → Bool
 is_formed p = list_all is_well_formed p.samples
 
 put_formed : (qs : List TrackPart) (p : TrackPart) → list_all is_formed qs ≡ true → is_formed p ≡ true → list_all is_formed (put_part qs p) ≡ true
-put_formed [] p e f = both_true _ _ f refl
+put_formed [] p e f = and_from _ _ f refl
 put_formed (q ∷ qs) p e f = elim (eqb_tells q.track p.track) [
   | inl h ↦
       let both = and_both (is_formed q) (list_all is_formed qs) e in
-      rw h.0 (rw (list_all-append is_well_formed q.samples p.samples) (both_true _ _ (both_true _ _ both.0 f) both.1))
-  | inr h ↦ let both = and_both (is_formed q) (list_all is_formed qs) e in rw h.0 (both_true _ _ both.0 (put_formed qs p both.1 f))
+      rw h.0 (rw (list_all-append is_well_formed q.samples p.samples) (and_from _ _ (and_from _ _ both.0 f) both.1))
+  | inr h ↦ let both = and_both (is_formed q) (list_all is_formed qs) e in rw h.0 (and_from _ _ both.0 (put_formed qs p both.1 f))
 ]
 
 pub joined_formed : (qs ps : List TrackPart) → list_all is_formed qs ≡ true → list_all is_formed ps ≡ true → list_all is_formed (joined qs ps) ≡ true
@@ -139,7 +137,7 @@ not_among true b h e = let k = h refl in absurd (let g = rw k at e in cc)
 not_among false b h e = refl
 
 distinct_kept : (b : Bool) (p : TrackPart) (xs : List TrackPart) → not (is_among (map part_track xs) p.track) ≡ true → are_distinct (map part_track xs) ≡ true → are_distinct (map part_track (cond b (p ∷ xs) xs)) ≡ true
-distinct_kept true p xs e f = both_true _ _ e f
+distinct_kept true p xs e f = and_from _ _ e f
 distinct_kept false p xs e f = f
 
 pub distinct_filter : (qs : List TrackPart) → are_distinct (map part_track qs) ≡ true → are_distinct (map part_track (filter has_samples qs)) ≡ true
@@ -149,7 +147,7 @@ distinct_filter (q ∷ qs) e =
     distinct_kept (has_samples q) q (filter has_samples qs) (not_among _ _ (among_filter qs q.track) both.0) (distinct_filter qs both.1)
 
 all_kept : (test : TrackPart → Bool) (b : Bool) (p : TrackPart) (xs : List TrackPart) → (b ≡ true → test p ≡ true) → list_all test xs ≡ true → list_all test (cond b (p ∷ xs) xs) ≡ true
-all_kept test true p xs e f = both_true _ _ (e refl) f
+all_kept test true p xs e f = and_from _ _ (e refl) f
 all_kept test false p xs e f = f
 
 pub filter_keeps : (test : TrackPart → Bool) (qs : List TrackPart) → list_all test qs ≡ true → list_all test (filter has_samples qs) ≡ true

@@ -4,9 +4,6 @@ use Rattle.std.specs.Prelude.{ℤ, pos, neg_ℤ, ◌+ℤ◌, ◌≤ℤ◌}
 use Rattle.std.proofs.lemmas.Int.{ints}
 use Rattle.sample_aux.specs.Near.{IsNear, StaysNear, EndsNear}
 
-pub wider : (b c : ℕ) (at : ℤ) → b ≤ c → IsNear b at → IsNear c at
-wider b c at le h = let l = h.0 in let u = h.1 in (omega (arith, ints, l, le), omega (arith, ints, u, le))
-
 -- what ends inside the file is near
 pub behind_near : (size end : ℕ) (start at : ℤ) → end < 2 ^ 64 → (at +ℤ pos size) ≤ℤ pos end → StaysNear start at → StaysNear start (at +ℤ pos size)
 behind_near size end start at fits inside h = λ b wide near.

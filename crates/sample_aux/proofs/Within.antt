@@ -1,5 +1,6 @@
 -- A resolved movie fragment may be fed, and is within the room that was left.
 use Rattle.std.proofs.Common.{◌≡◌, inl, inr, ℕ, zero, suc, ◌+◌, ◌-◌, ◌≤◌, Bool, true, false, List, [], ◌∷◌, ◌++◌, length, map, take, drop, Option, Some, None, Result, Ok, Err, refl, ap, subst, arith, length-append}
+use Rattle.std.proofs.lemmas.Bool.{and_from}
 use Rattle.std.specs.Prelude.{IfOk, IsTrue, ℤ, nat_lt, ◌==◌, not, ◌&&◌, if◌then◌else◌, filter, unwrap_or}
 use Rattle.std.specs.List.{list_all, sum_by}
 use Rattle.std.specs.Option.{option_map}
@@ -37,7 +38,7 @@ use Rattle.sample_aux.specs.InOrder.{in_order, learnt, each_passes}
 use Rattle.sample_aux.specs.Laying.{base_of, is_outside, size_of, range_at, after, counted, run_at, run_laid, begun, runs_laid}
 use Rattle.sample_aux.specs.Auxiliary.{rule_of, auxiliary_of}
 use Rattle.sample_aux.specs.Resolve.{entry_with, samples_of, traf_resolved, trafs_resolved, joined, all_joined, begin, fragment_of, known_resolved, track_with, place_of, item_of, protect_of, sample_at, samples_at, check_place, as_fault, sample_passes}
-use Rattle.sample_aux.proofs.Joining.{both_true, or_right, is_formed, of_track, distinct_joined, joined_of, joined_formed, joined_samples, joined_bytes, distinct_filter, filter_keeps, filter_has, sum_filter}
+use Rattle.sample_aux.proofs.Joining.{or_right, is_formed, of_track, distinct_joined, joined_of, joined_formed, joined_samples, joined_bytes, distinct_filter, filter_keeps, filter_has, sum_filter}
 
 -- what >>= gave was given by both
 pub bound : {E A B : Type 0} (x : Result A E) (f : A → Result B E) (y : B) → (x >>= f) ≡ Ok y → (a : A) × ((x ≡ Ok a) × (f a ≡ Ok y))
@@ -213,7 +214,7 @@ unfolding each_passes
 all_formed senc traf [] u e = refl
 all_formed senc traf (s ∷ ss) u e =
     let a = bound (sample_passes senc traf s) (λ (passed : Unit {0}). each_passes (λ x. sample_passes senc traf x) ss) u e in
-    both_true (is_well_formed s) (list_all is_well_formed ss) (formed_of s.protect (length s.bytes) (check_place senc traf s) a.1.0) (all_formed senc traf ss u a.1.1)
+    and_from (is_well_formed s) (list_all is_well_formed ss) (formed_of s.protect (length s.bytes) (check_place senc traf s) a.1.0) (all_formed senc traf ss u a.1.1)
 
 -- ---- the track
 
@@ -297,8 +298,8 @@ parts_more : (m : MovieProtection) (l : DataCursor) (x : TrackPart × DataCursor
 parts_more m l x ps a b =
     let p = a.samples in let q = b.samples in let r = a.bytes in let s = b.bytes in
     record {
-      known = both_true _ _ a.known b.known;
-      formed = both_true _ _ a.formed b.formed;
+      known = and_from _ _ a.known b.known;
+      formed = and_from _ _ a.formed b.formed;
       samples = omega (arith, p, q, sum_by-cons part_samples x.0 ps);
       bytes = omega (arith, r, s, sum_by-cons part_bytes x.0 ps);
     }
@@ -334,7 +335,7 @@ kept_within file m moof room ps h =
     let bytes : sum_by part_bytes (filter has_samples parts) ≤ room.bytes = omega (arith, b, empty, sum_filter part_bytes parts, joined_bytes [] ps) in
     record {
       known = filter_keeps (λ (p : TrackPart). is_among (protected_ids m) p.track) parts (joined_of (λ id. is_among (protected_ids m) id) [] ps refl h.known);
-      joined = both_true _ _ (distinct_filter parts (distinct_joined [] ps refl)) (filter_has parts);
+      joined = and_from _ _ (distinct_filter parts (distinct_joined [] ps refl)) (filter_has parts);
       formed = filter_keeps is_formed parts (joined_formed [] ps refl h.formed);
       samples = samples;
       bytes = bytes;

@@ -3,7 +3,7 @@ use Rattle.std.proofs.Common.{◌≡◌, ℕ, ◌+◌, ◌≤◌, inl, inr, eq-e
 use Rattle.std.specs.Prelude.{◌==◌, ◌||◌, not, ◌&&◌}
 use Rattle.std.specs.List.{list_all, sum_by}
 use Rattle.std.proofs.lemmas.List.Sums.{sum_by-cons, sum_by_push}
-use Rattle.std.proofs.lemmas.Bool.{eqb-true, cases_Bool}
+use Rattle.std.proofs.lemmas.Bool.{and_parts, eqb-true, cases_Bool, or_parts, or_right, and_from}
 use Rattle.eme_types.specs.declared.sample.EncSample.{EncSample}
 use Rattle.eme_types.specs.declared.media.InitData.{InitData}
 use Rattle.eme_types.specs.declared.media.Fragment.{Fragment}
@@ -16,7 +16,7 @@ use Rattle.track_media.specs.declared.line.ListLine.{ListLine}
 use Rattle.track_media.specs.declared.line.ListLine.TheVariants as a
 use Rattle.track_media.specs.ListLine.{Fits}
 use Rattle.track_media.specs.Gathering.{Gathering, added, finished, pushed, with_sample, empty_part, open_fragment, fragments_at, nothing}
-use Rattle.track_media.proofs.Standing.{two_tests, not_true}
+use Rattle.track_media.proofs.Standing.{not_true}
 
 abbrev pub part_formed : TrackPart → Bool
 part_formed p = list_all is_well_formed p.samples
@@ -42,7 +42,7 @@ nothing_sound = record { few = lit≤ tt; distinct = refl; early = λ e. refl; n
 kept_all : (q h : TrackPart → Bool) (ps : List TrackPart) → list_all q ps ≡ true → list_all q (filter h ps) ≡ true
 kept_all q h [] e = refl
 kept_all q h (p ∷ ps) e =
-    let both = two_tests (q p) (list_all q ps) e in
+    let both = and_parts (q p) (list_all q ps) e in
     elim (cases_Bool (h p)) [
       | inl yes' ↦ rw (yes', both.0, kept_all q h ps both.1) refl
       | inr no' ↦ rw no' (kept_all q h ps both.1)
@@ -56,15 +56,10 @@ kept_pass h (p ∷ ps) =
       | inr no' ↦ rw no' (kept_pass h ps)
     ]
 
-neither : (b c : Bool) → (b || c) ≡ false → (b ≡ false) × (c ≡ false)
-neither true c e = absurd cc
-neither false true e = absurd cc
-neither false false e = (refl, refl)
-
 not_kept : (h : TrackPart → Bool) (ps : List TrackPart) (t : ℕ) → is_among (map part_track ps) t ≡ false → is_among (map part_track (filter h ps)) t ≡ false
 not_kept h [] t e = refl
 not_kept h (p ∷ ps) t e =
-    let both = neither (p.track == t) (is_among (map part_track ps) t) e in
+    let both = or_parts (p.track == t) (is_among (map part_track ps) t) e in
     elim (cases_Bool (h p)) [
       | inl yes' ↦ rw (yes', both.0, not_kept h ps t both.1) refl
       | inr no' ↦ rw no' (not_kept h ps t both.1)
@@ -73,7 +68,7 @@ not_kept h (p ∷ ps) t e =
 kept_distinct : (h : TrackPart → Bool) (ps : List TrackPart) → are_distinct (map part_track ps) ≡ true → are_distinct (map part_track (filter h ps)) ≡ true
 kept_distinct h [] e = refl
 kept_distinct h (p ∷ ps) e =
-    let both = two_tests (not (is_among (map part_track ps) p.track)) (are_distinct (map part_track ps)) e in
+    let both = and_parts (not (is_among (map part_track ps) p.track)) (are_distinct (map part_track ps)) e in
     elim (cases_Bool (h p)) [
       | inl yes' ↦ rw (yes', not_kept h ps p.track (not_true (is_among (map part_track ps) p.track) both.0), kept_distinct h ps both.1) refl
       | inr no' ↦ rw no' (kept_distinct h ps both.1)
@@ -104,14 +99,10 @@ no_bytes p e = no_size p.samples (no_samples p e)
 
 -- ---- tracks
 
-or_right : (b c : Bool) → c ≡ true → (b || c) ≡ true
-or_right true c e = refl
-or_right false c e = e
-
 among_more : (t : ℕ) (ts us : List ℕ) → list_all (is_among ts) us ≡ true → list_all (is_among (t ∷ ts)) us ≡ true
 among_more t ts [] e = refl
 among_more t ts (u ∷ us) e =
-    let both = two_tests (is_among ts u) (list_all (is_among ts) us) e in
+    let both = and_parts (is_among ts u) (list_all (is_among ts) us) e in
     rw (or_right (t == u) (is_among ts u) both.0, among_more t ts us both.1) refl
 
 same_id : (t : ℕ) → (t == t) ≡ true
@@ -136,13 +127,10 @@ pub record SoundFragments (g : Gathering) (fs : List Fragment) : Type 0 where
 
 pub one_more : {A : Type 0} (p : A → Bool) (xs : List A) (x : A) → list_all p xs ≡ true → p x ≡ true → list_all p (xs ++ x ∷ []) ≡ true
 one_more p [] x e h = rw h refl
-one_more p (y ∷ xs) x e h = let both = two_tests (p y) (list_all p xs) e in rw (both.0, one_more p xs x both.1 h) refl
+one_more p (y ∷ xs) x e h = let both = and_parts (p y) (list_all p xs) e in rw (both.0, one_more p xs x both.1 h) refl
 
 pub sum_end : {A : Type 0} (f : A → ℕ) (xs : List A) (x : A) → sum_by f (xs ++ x ∷ []) ≡ sum_by f xs + f x
 sum_end f xs x = sum_by_push f xs x
-
-both_hold : (b c : Bool) → b ≡ true → c ≡ true → (b && c) ≡ true
-both_hold b c e h = rw (e, h) refl
 
 open_known : (g : Gathering) → map part_track g.parts ≡ g.known.tracks → are_known g.known.tracks (open_fragment g) ≡ true
 open_known g e =
@@ -152,7 +140,7 @@ open_known g e =
 
 open_joined : (g : Gathering) → map part_track g.parts ≡ g.known.tracks → are_distinct g.known.tracks ≡ true → is_joined (open_fragment g) ≡ true
 open_joined g e d =
-    both_hold _ _ (kept_distinct has_samples g.parts (subst (λ (ts : List ℕ). are_distinct ts ≡ true) (sym e) d)) (kept_pass has_samples g.parts)
+    and_from _ _ (kept_distinct has_samples g.parts (subst (λ (ts : List ℕ). are_distinct ts ≡ true) (sym e) d)) (kept_pass has_samples g.parts)
 
 closed_begun : (g : Gathering) → Sound g → g.known.begun ≡ true → SoundFragments g (g.fragments ++ open_fragment g ∷ [])
 closed_begun g s e =
@@ -195,7 +183,7 @@ pushed_tracks id s (p ∷ ps) =
 pushed_formed : (id : ℕ) (s : EncSample) (ps : List TrackPart) → is_well_formed s ≡ true → list_all part_formed ps ≡ true → list_all part_formed (pushed id s ps) ≡ true
 pushed_formed id s [] w e = refl
 pushed_formed id s (p ∷ ps) w e =
-    let both = two_tests (part_formed p) (list_all part_formed ps) e in
+    let both = and_parts (part_formed p) (list_all part_formed ps) e in
     elim (cases_Bool (p.track == id)) [
       | inl yes' ↦ rw (yes', one_more is_well_formed p.samples s both.0 w, both.1) refl
       | inr no' ↦ rw (no', both.0, pushed_formed id s ps w both.1) refl

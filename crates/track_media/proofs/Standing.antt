@@ -4,7 +4,7 @@ use Rattle.std.specs.Prelude.{Result, Ok, Err, ◌==◌, ◌||◌, not, ◌&&◌
 use Rattle.std.specs.List.{list_any, sum_by}
 use Rattle.std.proofs.lemmas.List.{append-nil}
 use Rattle.std.proofs.lemmas.List.Sums.{sum_by-append}
-use Rattle.std.proofs.lemmas.Bool.{eqb-true, eqb-false, ne_eqb, cases_Bool}
+use Rattle.std.proofs.lemmas.Bool.{and_parts, eqb-true, eqb-false, ne_eqb, cases_Bool, or_right}
 use Rattle.eme_types.specs.declared.sample.EncSample.{EncSample}
 use Rattle.eme_types.specs.declared.media.InitData.{InitData}
 use Rattle.eme_types.specs.declared.media.Fragment.{Fragment}
@@ -90,11 +90,6 @@ others_kept section id s (t ∷ ts) e =
     let head = part_kept section (a.Sample id s) t (other_track id t s (turned t id false both.0)) in
     rw (head, others_kept section id s ts both.1) refl
 
-pub two_tests : (b c : Bool) → (b && c) ≡ true → (b ≡ true) × (c ≡ true)
-two_tests true true e = (refl, refl)
-two_tests true false e = absurd cc
-two_tests false c e = absurd cc
-
 pub not_true : (b : Bool) → not b ≡ true → b ≡ false
 not_true true e = absurd cc
 not_true false e = refl
@@ -102,7 +97,7 @@ not_true false e = refl
 pub parts_gained : (section : List ListLine) (id : ℕ) (s : EncSample) (ts : List ℕ) → are_distinct ts ≡ true → pushed id s (map (part_of section) ts) ≡ map (part_of (section ++ a.Sample id s ∷ [])) ts
 parts_gained section id s [] e = refl
 parts_gained section id s (t ∷ ts) e =
-    let both = two_tests (not (is_among ts t)) (are_distinct ts) e in
+    let both = and_parts (not (is_among ts t)) (are_distinct ts) e in
     elim (cases_Bool (t == id)) [
       | inl yes' ↦
           let same : t ≡ id = eqb-true t id yes' in
@@ -149,10 +144,6 @@ or_false : (b c : Bool) → c ≡ false → (b || c) ≡ b
 or_false true c e = refl
 or_false false c e = e
 
-or_true : (b c : Bool) → c ≡ true → (b || c) ≡ true
-or_true true c e = refl
-or_true false c e = e
-
 grown_on : (before : List ListLine) (x : ListLine) (whole : List (List ListLine)) (section : List ListLine) (b : Bool) → is_fragment x ≡ false → sections before ≡ whole ++ open_at b section → (b ≡ false → whole ≡ []) → sections (before ++ x ∷ []) ≡ whole ++ open_at b (section ++ x ∷ [])
 grown_on before x whole section true e cut early = sections_grown before x e ∙ ap (grown x) cut ∙ grown_last x whole section
 grown_on before x whole section false e cut early =
@@ -190,7 +181,7 @@ fragment_stands before g st = record {
   whole = sections before;
   section = [];
   tracks = st.tracks ∙ no_tracks_more before a.Fragment refl;
-  begun = sym (begun_at_end before a.Fragment ∙ or_true (list_any is_fragment before) true refl);
+  begun = sym (begun_at_end before a.Fragment ∙ or_right (list_any is_fragment before) true refl);
   samples = st.samples ∙ ap (λ ss. MAX_SAMPLES - length ss) (no_samples_more before a.Fragment refl);
   bytes = st.bytes ∙ ap (λ ss. MAX_SAMPLE_BYTES - sum_by sample_bytes ss) (no_samples_more before a.Fragment refl);
   cut = sections_begun before;

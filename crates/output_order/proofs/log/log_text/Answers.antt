@@ -16,7 +16,7 @@ loop-i-preserved c =
     let before : i + 1 - 1 ≡ i = omega arith in
     let seen : slice_get (effects_in ids h) i ≡ Some c.effects_at.result.now = ap (λ n. slice_get (effects_in ids h) n) (sym before) ∙ (ap (λ g. slice_get (effects_in ids g) (i + 1 - 1)) c.history-history.ensures.items ∙ c.effects_at.ensures) in
     let line : c.extend_from_slice.new.self ≡ c.loop-i.out ++ entry_line (i + 1) c.loop-i.fed c.index-history-i.result = c.in_ok-extend_from_slice.ensures.ok ∙ ap (λ (x : List ℕ). c.loop-i.out ++ x) (c.as_bytes.ensures.value ∙ c.in_ok-line.ensures) in
-    rw c.fragments_fed-fed.ensures (logged_more ids h i c.loop-i.fed c.loop-i.out c.extend_from_slice.new.self c.put_effects.new.out c.index-history-i.result c.effects_at.result.now (record { within = c.loop-i-test.true; is = c.index-history-i.is; did = seen }) c.loop-i.invariant line c.in_ok-put_effects.ensures)
+    rw c.fragments_fed-fed.ensures (logged_more ids h i c.loop-i.fed c.index-history-i.result c.loop-i.out c.put_effects.new.out (record { within = c.loop-i-test.true; is = c.index-history-i.is; effects = c.effects_at.result.now; did = seen; now = c.extend_from_slice.new.self; line = line; more = c.in_ok-put_effects.ensures }) c.loop-i.invariant)
 
 pub returns : goal.returns
 returns c =

@@ -29,7 +29,12 @@ invariant_of-self-in-Ok c =
       effects = rw c.reserve.ensures.rest at c.record_step.ensures.effects;
     }))
 
-pub returns-in-Ok-clause-number : goal.returns-in-Ok-clause-number
-returns-in-Ok-clause-number c =
+pub returns-in-Ok : goal.returns-in-Ok
+returns-in-Ok c =
     let s = c.self.inside in
-    rw (← c.self.view_is) ((rw c.reserve.ensures.rest at c.in-Ok.ensures.number) ∙ call_number s.ids s.parts.chronicle.entries s.parts.chronicle.effects s.parts.sessions.machine s.parts.tracks.tracks s.parts.tracks.claims c.self.invariant.2)
+    record {
+      ok = search rules;
+      number = rw (← c.self.view_is) ((rw c.reserve.ensures.rest at c.in-Ok.ensures.number) ∙ call_number s.ids s.parts.chronicle.entries s.parts.chronicle.effects s.parts.sessions.machine s.parts.tracks.tracks s.parts.tracks.claims c.self.invariant.2);
+      err = tt;
+      back = tt;
+    }

@@ -23,10 +23,14 @@ claim_sample-taken-requires c =
     let place : c.next_place-place.result ≡ length s.parts.chronicle.entries + 1 = rw c.reserve.ensures.rest at c.next_place-place.ensures in
     rw c.reserve.ensures.rest (subst (λ (n : ℕ). AreBelow n s.parts.tracks.claims) (sym place) (next_above s.ids s.parts.chronicle.entries s.parts.chronicle.effects (world_of s.parts.sessions.machine s.parts.tracks.tracks) s.parts.tracks.claims c.self.invariant.2))
 
-pub returns-in-Err-clause-no_work : goal.returns-in-Err-clause-no_work
-returns-in-Err-clause-no_work c =
+pub returns-in-Err : goal.returns-in-Err
+returns-in-Err c =
     let s = c.self.inside in
-    λ e. rw (← c.self.view_is) (no_claim s.ids s.parts.chronicle.entries s.parts.chronicle.effects s.parts.sessions.machine s.parts.tracks.tracks s.parts.tracks.claims c.self.invariant.2 (rw c.reserve.ensures.rest at c.in-Err.ensures.no_work (err_again c.in-Err.fault _ e)))
+    record {
+      ok = tt;
+      err = search rules;
+      no_work = λ e. rw (← c.self.view_is) (no_claim s.ids s.parts.chronicle.entries s.parts.chronicle.effects s.parts.sessions.machine s.parts.tracks.tracks s.parts.tracks.claims c.self.invariant.2 (rw c.reserve.ensures.rest at c.in-Err.ensures.no_work (err_again c.in-Err.fault _ e)));
+    }
 
 pub invariant_of-self-2 : goal.invariant_of-self-2
 invariant_of-self-2 c =
@@ -54,8 +58,8 @@ invariant_of-self-2 c =
       out_plain s.ids s.parts.chronicle.entries c.append_unseen.new.self.entries (Claim c.args.worker held.track held.index held.session c.in-Ok.taken.1) s.parts.chronicle.effects (world_of s.parts.sessions.machine ts) ts ts claims c.claim_sample-taken.new.tracks.claims c.self.invariant.2 c.self.invariant.4 is (λ t. refl) (same_out ts) (fewer_added claims c.claim_sample-taken.new.tracks.claims new x.added refl),
     )
 
-pub returns-clause-ok : goal.returns-clause-ok
-returns-clause-ok c =
+pub returns : goal.returns
+returns c =
     let s = c.self.inside in
     let ts = s.parts.tracks.tracks in
     let claims = s.parts.tracks.claims in
@@ -68,11 +72,15 @@ returns-clause-ok c =
     let place : c.next_place-place.result ≡ length s.parts.chronicle.entries + 1 = rw c.reserve.ensures.rest at c.next_place-place.ensures in
     let is = rw c.reserve.ensures.rest at c.append_unseen.ensures.entries in
     let opened = claim_open s.ids s.parts.chronicle.entries s.parts.chronicle.effects s.parts.sessions.machine ts claims t.work copy no_track held c.self.invariant.2 c.self.invariant.3 t.first copied (x.place_ ∙ place) x.track x.index x.session x.key refl in
-    rw (← c.self.view_is, is) (record {
-      kid = c.in-Ok.taken.1;
-      entry = refl;
-      worker_ = x.worker_;
-      place = x.place_ ∙ place;
-      open_ = subst (λ (w : ℕ). let r : Run = record { tracks = s.ids; history = s.parts.chronicle.entries ++ Claim w held.track held.index held.session c.in-Ok.taken.1 ∷ [] } in IsOpen r held) x.worker_ opened;
-      first = first_claim s.ids s.parts.chronicle.entries s.parts.chronicle.effects s.parts.sessions.machine ts claims t.work held.track held.index no_track c.self.invariant.2 c.self.invariant.3 t.first x.track x.index;
-    })
+    record {
+      ok = rw (← c.self.view_is, is) (record {
+        kid = c.in-Ok.taken.1;
+        entry = refl;
+        worker_ = x.worker_;
+        place = x.place_ ∙ place;
+        open_ = subst (λ (w : ℕ). let r : Run = record { tracks = s.ids; history = s.parts.chronicle.entries ++ Claim w held.track held.index held.session c.in-Ok.taken.1 ∷ [] } in IsOpen r held) x.worker_ opened;
+        first = first_claim s.ids s.parts.chronicle.entries s.parts.chronicle.effects s.parts.sessions.machine ts claims t.work held.track held.index no_track c.self.invariant.2 c.self.invariant.3 t.first x.track x.index;
+      });
+      err = tt;
+      no_work = search rules;
+    }

@@ -32,9 +32,13 @@ invariant_of-self-2 c =
       effects = rw c.reserve.ensures.rest at c.record_step.ensures.effects;
     }))
 
-pub returns-then-not-job_left-clause-empty : goal.returns-then-not-job_left-clause-empty
-returns-then-not-job_left-clause-empty c =
+pub returns-then-not-job_left : goal.returns-then-not-job_left
+returns-then-not-job_left c =
     let s = c.self.inside in
     let off : c.job_left.result ≡ false = search rules in
     let none : s.parts.sessions.machine.jobs ≡ [] = nothing_left s.parts.sessions.machine.jobs c.job_left.result c.job_left.ensures off in
-    rw (← c.self.view_is) ((λ e. subst (λ (w : World). w.machine.jobs ≡ []) c.self.invariant.2.state none), (λ e. refl))
+    record {
+      ok = tt;
+      err = search rules;
+      empty = rw (← c.self.view_is) ((λ e. subst (λ (w : World). w.machine.jobs ≡ []) c.self.invariant.2.state none), (λ e. refl));
+    }

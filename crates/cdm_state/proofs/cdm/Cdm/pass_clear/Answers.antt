@@ -1,4 +1,4 @@
-use Rattle.std.proofs.Common.{[], refl, get_or, length, arith}
+use Rattle.std.proofs.Common.{rules, [], refl, get_or, length, arith}
 use Rattle.eme_types.specs.declared.entry.Entry.TheVariants.{PassClear}
 use Rattle.key_claims.specs.Changes.{changed_at, more_out}
 use Rattle.key_claims.proofs.Readiness.{head_fed}
@@ -11,10 +11,15 @@ use Rattle.cdm_state.proofs.First.{first_pass}
 use Rattle.cdm_state.proofs.OutOn.{out_pass}
 use Rattle.cdm_state.proofs.cdm.Cdm.pass_clear.Goals as goal
 
-pub returns-in_err-next-clause-not_ready : goal.returns-in_err-next-clause-not_ready
-returns-in_err-next-clause-not_ready c =
+pub returns-in_err-next : goal.returns-in_err-next
+returns-in_err-next c =
     let s = c.self.inside in
-    on_err c.from_residual.result (rw (← c.self.view_is) (no_pass s.ids s.parts.chronicle.entries s.parts.chronicle.effects s.parts.sessions.machine s.parts.tracks.tracks s.parts.tracks.claims c.self.invariant.2 c.in_err-next.ensures.not_ready))
+    record {
+      ok = search rules;
+      first = search rules;
+      err = search rules;
+      not_ready = on_err c.from_residual.result (rw (← c.self.view_is) (no_pass s.ids s.parts.chronicle.entries s.parts.chronicle.effects s.parts.sessions.machine s.parts.tracks.tracks s.parts.tracks.claims c.self.invariant.2 c.in_err-next.ensures.not_ready));
+    }
 
 pub append_unseen-requires : goal.append_unseen-requires
 append_unseen-requires c =
@@ -39,8 +44,13 @@ invariant_of-self-2 c =
       out_pass s.ids s.parts.chronicle.entries c.append_unseen.new.self.entries s.parts.chronicle.effects s.parts.sessions.machine ts claims next.track next.index p.at p.sample c.self.invariant.2 c.self.invariant.3 c.self.invariant.4 p.first (p.next.track_ no_track) (p.next.index_ no_track) (p.head_ no_track) c.append_unseen.ensures.entries,
     )
 
-pub returns-clause-first : goal.returns-clause-first
-returns-clause-first c =
+pub returns : goal.returns
+returns c =
     let s = c.self.inside in
     let p = c.in_ok-next.ensures.ok in
-    rw (← c.self.view_is) (first_pass s.ids s.parts.chronicle.entries s.parts.chronicle.effects s.parts.sessions.machine s.parts.tracks.tracks s.parts.tracks.claims p.at c.in_ok-next.next.track no_track c.self.invariant.2 c.self.invariant.3 p.first (p.next.track_ no_track))
+    record {
+      ok = search rules;
+      first = rw (← c.self.view_is) (first_pass s.ids s.parts.chronicle.entries s.parts.chronicle.effects s.parts.sessions.machine s.parts.tracks.tracks s.parts.tracks.claims p.at c.in_ok-next.next.track no_track c.self.invariant.2 c.self.invariant.3 p.first (p.next.track_ no_track));
+      err = tt;
+      not_ready = tt;
+    }

@@ -30,29 +30,49 @@ invariant_of-self-2 c =
       out_plain s.ids s.parts.chronicle.entries c.append_unseen.new.self.entries (Settle c.args.line) s.parts.chronicle.effects (world_of s.parts.sessions.machine ts) ts ts claims claims c.self.invariant.2 c.self.invariant.4 is (λ t. refl) (same_out ts) (fewer_same claims),
     )
 
-pub returns-clause-rest : goal.returns-clause-rest
-returns-clause-rest c =
+pub returns : goal.returns
+returns c =
     let s = c.self.inside in
     let rest = at_rest s.parts.sessions.machine s.parts.tracks.tracks (nothing_left _ c.job_left.result c.job_left.ensures c.if-job_left.false) (nothing_left _ c.task_left.result c.task_left.ensures c.if-task_left.false) c.in-None.ensures in
-    rw (← c.self.view_is) (subst AtRest c.self.invariant.2.state rest)
+    record {
+      ok = search rules;
+      rest = rw (← c.self.view_is) (subst AtRest c.self.invariant.2.state rest);
+      fault = tt;
+      err = tt;
+    }
 
-pub returns-then-task_left-clause-fault : goal.returns-then-task_left-clause-fault
-returns-then-task_left-clause-fault c =
+pub returns-then-task_left : goal.returns-then-task_left
+returns-then-task_left c =
     let s = c.self.inside in
     let none : s.parts.sessions.machine.jobs ≡ [] = nothing_left _ c.job_left.result c.job_left.ensures c.if-job_left.false in
-    rw (← c.self.view_is) (subst (λ (w : World). HasNotSettled w TaskLeft) c.self.invariant.2.state (none, c.task_left.ensures.0 c.if-task_left.true))
+    record {
+      ok = tt;
+      rest = tt;
+      fault = rw (← c.self.view_is) (subst (λ (w : World). HasNotSettled w TaskLeft) c.self.invariant.2.state (none, c.task_left.ensures.0 c.if-task_left.true));
+      err = search rules;
+    }
 
-pub returns-in-Some-clause-fault : goal.returns-in-Some-clause-fault
-returns-in-Some-clause-fault c =
+pub returns-in-Some : goal.returns-in-Some
+returns-in-Some c =
     let s = c.self.inside in
     let f = c.in-Some.ensures in
     let none : s.parts.sessions.machine.jobs ≡ [] = nothing_left _ c.job_left.result c.job_left.ensures c.if-job_left.false in
     let idle : s.parts.sessions.machine.tasks ≡ [] = nothing_left _ c.task_left.result c.task_left.ensures c.if-task_left.false in
     let busy = subst (λ (n : ℕ). FirstBusy (world_of s.parts.sessions.machine s.parts.tracks.tracks) n) (sym (f.id no_track)) (first_busy s.parts.sessions.machine s.parts.tracks.tracks f.at no_track f.first) in
-    rw (← c.self.view_is) (subst (λ (w : World). HasNotSettled w (TrackBusy c.in-Some.track)) c.self.invariant.2.state (none, idle, busy))
+    record {
+      ok = tt;
+      rest = tt;
+      fault = rw (← c.self.view_is) (subst (λ (w : World). HasNotSettled w (TrackBusy c.in-Some.track)) c.self.invariant.2.state (none, idle, busy));
+      err = search rules;
+    }
 
-pub returns-then-is_err-clause-fault : goal.returns-then-is_err-clause-fault
-returns-then-is_err-clause-fault c =
+pub returns-then-is_err : goal.returns-then-is_err
+returns-then-is_err c =
     let s = c.self.inside in
     let rest = at_rest s.parts.sessions.machine s.parts.tracks.tracks (nothing_left _ c.job_left.result c.job_left.ensures c.if-job_left.false) (nothing_left _ c.task_left.result c.task_left.ensures c.if-task_left.false) c.in-None.ensures in
-    rw (← c.self.view_is) (subst AtRest c.self.invariant.2.state rest)
+    record {
+      ok = tt;
+      rest = tt;
+      fault = rw (← c.self.view_is) (subst AtRest c.self.invariant.2.state rest);
+      err = search rules;
+    }

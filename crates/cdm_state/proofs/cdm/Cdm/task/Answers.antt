@@ -50,9 +50,13 @@ invariant_of-self-2 c =
       effects = rw c.reserve.ensures.rest at c.record_step.ensures.effects;
     }))
 
-pub returns-then-not-task_left-clause-empty : goal.returns-then-not-task_left-clause-empty
-returns-then-not-task_left-clause-empty c =
+pub returns-then-not-task_left : goal.returns-then-not-task_left
+returns-then-not-task_left c =
     let s = c.self.inside in
     let off : c.task_left.result ≡ false = search rules in
     let none : s.parts.sessions.machine.tasks ≡ [] = nothing_left s.parts.sessions.machine.tasks c.task_left.result c.task_left.ensures off in
-    rw (← c.self.view_is) ((λ e. subst (λ (w : World). w.machine.tasks ≡ []) c.self.invariant.2.state none), (λ e. refl))
+    record {
+      ok = tt;
+      err = search rules;
+      empty = rw (← c.self.view_is) ((λ e. subst (λ (w : World). w.machine.tasks ≡ []) c.self.invariant.2.state none), (λ e. refl));
+    }

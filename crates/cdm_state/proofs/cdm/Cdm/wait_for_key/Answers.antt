@@ -1,4 +1,4 @@
-use Rattle.std.proofs.Common.{[], true, refl, length, get_or, ap, arith}
+use Rattle.std.proofs.Common.{rules, [], true, refl, length, get_or, ap, arith}
 use Rattle.eme_types.specs.declared.entry.Entry.TheVariants.{WaitForKey}
 use Rattle.key_sessions.specs.SessionsState.{SessionsState}
 use Rattle.key_claims.specs.Changes.{changed_at, with_waiting}
@@ -13,10 +13,15 @@ use Rattle.cdm_state.proofs.ShownOn.{waiting_out}
 use Rattle.cdm_state.proofs.OutOn.{out_plain, fewer_same}
 use Rattle.cdm_state.proofs.cdm.Cdm.wait_for_key.Goals as goal
 
-pub returns-in_err-track-clause-not_waiting : goal.returns-in_err-track-clause-not_waiting
-returns-in_err-track-clause-not_waiting c =
+pub returns-in_err-track : goal.returns-in_err-track
+returns-in_err-track c =
     let s = c.self.inside in
-    on_err c.from_residual.result (rw (← c.self.view_is) (no_wait s.ids s.parts.chronicle.entries s.parts.chronicle.effects s.parts.sessions.machine s.parts.tracks.tracks s.parts.tracks.claims c.self.invariant.2 c.in_err-track.ensures.not_waiting))
+    record {
+      ok = search rules;
+      first = search rules;
+      err = search rules;
+      not_waiting = on_err c.from_residual.result (rw (← c.self.view_is) (no_wait s.ids s.parts.chronicle.entries s.parts.chronicle.effects s.parts.sessions.machine s.parts.tracks.tracks s.parts.tracks.claims c.self.invariant.2 c.in_err-track.ensures.not_waiting));
+    }
 
 pub queue_event-requires : goal.queue_event-requires
 queue_event-requires c =
@@ -53,8 +58,13 @@ invariant_of-self-2 c =
       out_plain s.ids s.parts.chronicle.entries c.append_unseen.new.self.entries (WaitForKey track) s.parts.chronicle.effects (world_of s.parts.sessions.machine ts) ts us claims claims c.self.invariant.2 c.self.invariant.4 c.append_unseen.ensures.entries (λ t. refl) (waiting_out ts p.at) (fewer_same claims),
     )
 
-pub returns-clause-first : goal.returns-clause-first
-returns-clause-first c =
+pub returns : goal.returns
+returns c =
     let s = c.self.inside in
     let p = c.in_ok-track.ensures.ok in
-    rw (← c.self.view_is) (first_wait s.ids s.parts.chronicle.entries s.parts.chronicle.effects s.parts.sessions.machine s.parts.tracks.tracks s.parts.tracks.claims p.at c.in_ok-track.track no_track c.self.invariant.2 c.self.invariant.3 p.first (p.id no_track))
+    record {
+      ok = search rules;
+      first = rw (← c.self.view_is) (first_wait s.ids s.parts.chronicle.entries s.parts.chronicle.effects s.parts.sessions.machine s.parts.tracks.tracks s.parts.tracks.claims p.at c.in_ok-track.track no_track c.self.invariant.2 c.self.invariant.3 p.first (p.id no_track));
+      err = tt;
+      not_waiting = tt;
+    }

@@ -1,0 +1,99 @@
+//! Runs of the core under the lock.
+ghost use Rattle.std.specs.Prelude.{◌≡◌, ◌<◌, ◌^◌, IfOk};
+ghost use Rattle.shared_cdm.specs.Passes.{IsOf, parts, first_of};
+
+mod calls;
+
+use crate::shared::SharedCdm;
+use book_lock::Pass;
+use calls::{ask, creation, feed_nothing, job, two_threads, works};
+use cdm_state::{Cdm, StepFault};
+use eme_types::{AppCall, Entry, TrackIds};
+use std::alloc::Global;
+use std::test::Fail;
+
+const NO_MEMORY: &str = "no memory";
+
+fn opened(alloc: Global) -> Result<(SharedCdm, Pass<Cdm>), Fail>
+    ensures of { IfOk result (λ r. IsOf r.0 r.1) }
+    ensures parts { IfOk result (λ r. (parts r.1 ≡ 2 ^ 32) × (0 < first_of r.1)) }
+{
+    let cdm = Cdm::new(alloc, &TrackIds::new(alloc))?;
+    Ok(SharedCdm::new(alloc, cdm).ok().ok_or(NO_MEMORY)?)
+}
+
+#[test]
+fn passes_make_one_history(rt: HostRuntime) -> Result<(), Fail> {
+    let alloc = rt.alloc();
+    let call = creation(alloc)?;
+    let (shared, mut first) = opened(alloc)?;
+    let second = shared.split(&mut first);
+    let (second, created) = ask(&rt, &shared, second, call);
+    let (mut first, fed) = feed_nothing(&rt, &shared, first);
+    shared.join(&mut first, second);
+    let cdm = shared.close(first).ok().ok_or(NO_MEMORY)?;
+    assert!(rt; created && fed);
+    assert!(rt;
+        matches!(
+            cdm.history(),
+            [
+                Entry::Call {
+                    lane: 1,
+                    line: 2,
+                    ..
+                },
+                Entry::Feed {
+                    line: 3,
+                    fragment: None
+                }
+            ]
+        )
+    );
+    Ok(())
+}
+
+#[test]
+fn threads_make_one_history(rt: HostRuntime) -> Result<(), Fail> {
+    let (shared, mut one) = opened(rt.alloc())?;
+    let two = shared.split(&mut one);
+    let (mut one, two, made) = two_threads(&rt, rt.alloc(), &shared, one, two);
+    shared.join(&mut one, two);
+    let cdm = shared.close(one).ok().ok_or(NO_MEMORY)?;
+    assert!(rt; made);
+    // The calls of each lane stand in the order of their lines.
+    let mut next = [1u32, 1];
+    for entry in cdm.history() {
+        let Entry::Call {
+            lane,
+            line,
+            call: AppCall::Certificate { .. },
+        } = entry
+        else {
+            return Err(Fail::from("another entry"));
+        };
+        let lane = usize::from(*lane) - 1;
+        assert_eq!(rt; *line, next[lane]);
+        next[lane] += 1;
+    }
+    assert_eq!(rt; next, [101, 101]);
+    Ok(())
+}
+
+#[test]
+fn an_empty_queue_adds_nothing(rt: HostRuntime) -> Result<(), Fail> {
+    let (shared, pass) = opened(rt.alloc())?;
+    let (pass, ran) = job(&rt, &shared, pass);
+    let cdm = shared.close(pass).ok().ok_or(NO_MEMORY)?;
+    assert!(rt; ran == Err(StepFault::Empty) && cdm.history().is_empty());
+    Ok(())
+}
+
+#[test]
+fn a_desk_that_is_over_ends_the_work(rt: HostRuntime) -> Result<(), Fail> {
+    let (shared, pass) = opened(rt.alloc())?;
+    shared.end();
+    let (pass, is_over) = works(&rt, rt.alloc(), &shared, pass);
+    let cdm = shared.close(pass).ok().ok_or(NO_MEMORY)?;
+    assert!(rt; is_over && cdm.history().is_empty());
+    Ok(())
+}
