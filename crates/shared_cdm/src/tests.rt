@@ -22,6 +22,17 @@ fn opened(alloc: Global) -> Result<(SharedCdm, Pass<Cdm>), Fail>
     Ok(SharedCdm::new(alloc, cdm).ok().ok_or(NO_MEMORY)?)
 }
 
+/// Whether the history is a call of lane 1 and a feed without a fragment.
+fn is_created_and_fed(history: &[Entry]) -> bool {
+    match history {
+        [
+            Entry::Call { lane, line, .. },
+            Entry::Feed { line: fed, .. },
+        ] => { *lane == 1 && *line == 2 && *fed == 3 }
+        _ => false,
+    }
+}
+
 #[test]
 fn passes_make_one_history(rt: HostRuntime) -> Result<(), Fail> {
     let alloc = rt.alloc();
@@ -32,23 +43,21 @@ fn passes_make_one_history(rt: HostRuntime) -> Result<(), Fail> {
     let (mut first, fed) = feed_nothing(&rt, &shared, first);
     shared.join(&mut first, second);
     let cdm = shared.close(first).ok().ok_or(NO_MEMORY)?;
-    assert!(rt; created && fed);
-    assert!(rt;
-        matches!(
-            cdm.history(),
-            [
-                Entry::Call {
-                    lane: 1,
-                    line: 2,
-                    ..
-                },
-                Entry::Feed {
-                    line: 3,
-                    fragment: None
-                }
-            ]
-        )
-    );
+    assert!(rt; created && fed && is_created_and_fed(cdm.history()));
+    Ok(())
+}
+
+#[test]
+fn passes_are_joined_in_another_order(rt: HostRuntime) -> Result<(), Fail> {
+    let alloc = rt.alloc();
+    let call = creation(alloc)?;
+    let (shared, mut first) = opened(alloc)?;
+    let second = shared.split(&mut first);
+    let (mut second, created) = ask(&rt, &shared, second, call);
+    let (first, fed) = feed_nothing(&rt, &shared, first);
+    shared.join(&mut second, first);
+    let cdm = shared.close(second).ok().ok_or(NO_MEMORY)?;
+    assert!(rt; created && fed && is_created_and_fed(cdm.history()));
     Ok(())
 }
 
