@@ -8,7 +8,7 @@ use crate::shared::SharedCdm;
 use book_lock::Pass;
 use calls::{ask, creation, feed_nothing, job, two_threads, works};
 use cdm_state::{Cdm, StepFault};
-use eme_types::{AppCall, Entry, TrackIds};
+use eme_types::{Entry, TrackIds};
 use std::alloc::Global;
 use std::test::Fail;
 
@@ -19,7 +19,10 @@ fn opened(alloc: Global) -> Result<(SharedCdm, Pass<Cdm>), Fail>
     ensures parts { IfOk result (λ r. (parts r.1 ≡ 2 ^ 32) × (0 < first_of r.1)) }
 {
     let cdm = Cdm::new(alloc, &TrackIds::new(alloc))?;
-    Ok(SharedCdm::new(alloc, cdm).ok().ok_or(NO_MEMORY)?)
+    match SharedCdm::new(alloc, cdm) {
+        Ok(opened) => Ok(opened),
+        Err(_) => Err(Fail::from(NO_MEMORY)),
+    }
 }
 
 /// Whether the history is a call of lane 1 and a feed without a fragment.
@@ -70,21 +73,19 @@ fn threads_make_one_history(rt: HostRuntime) -> Result<(), Fail> {
     let cdm = shared.close(one).ok().ok_or(NO_MEMORY)?;
     assert!(rt; made);
     // The calls of each lane stand in the order of their lines.
-    let mut next = [1u32, 1];
+    let (mut one, mut two) = (1u32, 1u32);
     for entry in cdm.history() {
-        let Entry::Call {
-            lane,
-            line,
-            call: AppCall::Certificate { .. },
-        } = entry
-        else {
-            return Err(Fail::from("another entry"));
-        };
-        let lane = usize::from(*lane) - 1;
-        assert_eq!(rt; *line, next[lane]);
-        next[lane] += 1;
+        match entry {
+            Entry::Call { lane, line, .. } if *lane == 1 && *line == one => {
+                one = one.wrapping_add(1);
+            }
+            Entry::Call { lane, line, .. } if *lane == 2 && *line == two => {
+                two = two.wrapping_add(1);
+            }
+            _ => return Err(Fail::from("another entry")),
+        }
     }
-    assert_eq!(rt; next, [101, 101]);
+    assert_eq!(rt; (one, two), (101, 101));
     Ok(())
 }
 
