@@ -6,7 +6,7 @@ use Rattle.std.proofs.lemmas.List.Concat.{flat_map-append}
 use Rattle.std.proofs.lemmas.List.Elements.{filter-append, recursion_from_All}
 use Rattle.std.proofs.lemmas.Option.{slice_get_within}
 use Rattle.std.proofs.lemmas.Bool.Decides.{eqb_tells}
-use Rattle.eme_types.specs.declared.limits.TheConstants.{MAX_SAMPLES}
+use Rattle.eme_types.specs.declared.limits.TheConstants.{MAX_LANES, MAX_SAMPLES}
 use Rattle.eme_types.specs.declared.sample.EncSample.{EncSample}
 use Rattle.eme_types.specs.declared.media.Fragment.{Fragment}
 use Rattle.eme_types.specs.declared.media.Media.{Media}
@@ -81,7 +81,7 @@ gone h i = length (lane (lines_in h) i)
 -- what is known of the entry behind a front
 pub record Follows (n : ℕ) (script : List Line) (media : Media) (c : List Entry) (e : Entry) : Type 0 where
   pub allowed : Allowed media.tracks c e
-  pub next : (l : Line) → line_of e ≡ l ∷ [] → l.lane ≤ 7 → slice_get (lane script l.lane) (gone c l.lane) ≡ Some l
+  pub next : (l : Line) → line_of e ≡ l ∷ [] → l.lane < MAX_LANES → slice_get (lane script l.lane) (gone c l.lane) ≡ Some l
   pub known : HasLane e
   pub given : (f : Option Fragment) → fed_by e ≡ f ∷ [] → f ≡ slice_get media.fragments (length (feeds_in c))
   pub numbered : IsNumbered e
@@ -167,7 +167,7 @@ the_claim ids h worker track index session kid may =
 pub may_come : (n : ℕ) (script : List Line) (media : Media) (c : List Entry) (e : Entry) → n < 2 ^ 64 → All (λ t. t < 2 ^ 64) media.tracks → IsShort c → IsLegal media.tracks c → Follows n script media c e → MayCome (here script media c) e
 unfolding here
 may_come n script media c (Call i line call) few small short legal f =
-    let low : i ≤ 7 = f.known in
+    let low : i < MAX_LANES = f.known in
     (omega (arith, low), f.next (record { number = line; lane = i; action = Ask call }) (with_line line i (Ask call) f.numbered) low)
 may_come n script media c Job few small short legal f = tt
 may_come n script media c Task few small short legal f = tt

@@ -1,7 +1,8 @@
 -- Complete histories: every line of the script was gone through, every fragment was fed, and the core is at rest.
 -- The first points have a form for a history that may still go on.
-use Rattle.std.specs.Prelude.{ℕ, ◌≤◌, ◌≡◌, ◌≢◌, List, [], ◌∷◌, ◌++◌, length, drop, slice_get, Option, Some}
+use Rattle.std.specs.Prelude.{ℕ, ◌<◌, ◌≤◌, ◌≡◌, ◌≢◌, List, [], ◌∷◌, ◌++◌, length, drop, slice_get, Option, Some}
 use Rattle.std.specs.List.{AllByRecursion}
+use Rattle.eme_types.specs.declared.limits.TheConstants.{MAX_LANES}
 use Rattle.eme_types.specs.declared.media.Fragment.{Fragment}
 use Rattle.eme_types.specs.declared.media.Media.{Media}
 use Rattle.eme_types.specs.declared.entry.Entry.{Entry}
@@ -17,15 +18,15 @@ pub record IsFront {A : Type 0} (front whole : List A) : Type 0 where
 
 -- so far: of each lane a front of its lines was gone through, in order, each once
 abbrev pub LanesBegun : List Line → List Entry → Type 0
-LanesBegun script h = (i : ℕ) → i ≤ 7 → IsFront (lane (lines_in h) i) (lane script i)
+LanesBegun script h = (i : ℕ) → i < MAX_LANES → IsFront (lane (lines_in h) i) (lane script i)
 
 -- of each lane all lines were gone through, in order, each once
 abbrev pub LanesDone : List Line → List Entry → Type 0
-LanesDone script h = (i : ℕ) → i ≤ 7 → lane (lines_in h) i ≡ lane script i
+LanesDone script h = (i : ℕ) → i < MAX_LANES → lane (lines_in h) i ≡ lane script i
 
 -- a call is of a lane that there is
 abbrev pub HasLane : Entry → Type 0
-HasLane (Call lane line call) = lane ≤ 7
+HasLane (Call lane line call) = lane < MAX_LANES
 HasLane e = Unit {0}
 
 -- each call is of a lane that there is
