@@ -7,7 +7,7 @@ use crate::kind::{LineFault, MediaKind};
 use crate::number::track_id;
 use crate::sample::sample_line;
 use crate::words::{data_in, has_empty_word, init_kind, one_word, two_words};
-use eme_types::{EncSample, InitData, Scheme, TrackIds};
+use eme_types::{EncSample, InitData, MAX_TRACKS, Scheme, TrackIds};
 use std::alloc::Global;
 use text_words::Pieces;
 
@@ -40,8 +40,6 @@ pub struct Mode {
     pub crypt: u8,
     pub skip: u8,
 }
-
-pub const MAX_TRACKS: usize = 8;
 
 /// A rule on the form of a line is broken.
 pub const LINE: LineFault = LineFault::Broken(MediaKind::Line);
