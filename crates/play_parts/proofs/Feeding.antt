@@ -28,43 +28,52 @@ fed_same fragments left es fs is fed = record {
   left_ = ap (λ (xs : List (Option Fragment)). drop (length xs) fragments) is ∙ fed.left_;
 }
 
+slice_get-drop : {A : Type 0} (xs : List A) (n k : ℕ) → slice_get (drop n xs) k ≡ slice_get xs (n + k)
+slice_get-drop xs zero k = ap (slice_get xs) (let same : k ≡ 0 + k = omega arith in same)
+slice_get-drop [] (suc n) k = refl
+slice_get-drop (x ∷ xs) (suc n) k = slice_get-drop xs n k ∙ ap (slice_get (x ∷ xs)) (let same : suc (n + k) ≡ suc n + k = omega arith in same)
+
+-- the fragments that are left are the next of the media
+next_is : (fragments left : List Fragment) (es : List Entry) (k : ℕ) → AreFed fragments left es → slice_get left k ≡ slice_get fragments (length (feeds_in es) + k)
+next_is fragments left es k fed = ap (λ (xs : List Fragment). slice_get xs k) (sym fed.left_) ∙ slice_get-drop fragments (length (feeds_in es)) k
+
+append_cases : {A : Type 0} (xs ys : List A) (k : ℕ) (y : A) → slice_get (xs ++ ys) k ≡ Some y → (slice_get xs k ≡ Some y) ⊎ ((j : ℕ) × (k ≡ length xs + j) × (slice_get ys j ≡ Some y))
+append_cases [] ys k y at = inr (k, omega arith, at)
+append_cases (x ∷ xs) ys zero y at = inl at
+append_cases (x ∷ xs) ys (suc k) y at =
+    elim (append_cases xs ys k y at) [ inl there ↦ inl there | inr behind ↦ inr (behind.0, omega (arith, behind.1), behind.2) ]
+
+-- and more entries, which feed what was left, in order
+pub fed_on : (fragments left rest : List Fragment) (es more : List Entry) → ((k : ℕ) (given : Option Fragment) → slice_get (feeds_in more) k ≡ Some given → given ≡ slice_get left k) → drop (length (feeds_in more)) left ≡ rest → AreFed fragments left es → AreFed fragments rest (es ++ more)
+fed_on fragments left rest es more next behind fed =
+    let feeds : feeds_in (es ++ more) ≡ feeds_in es ++ feeds_in more = flat_map-append fed_by es more in
+    let many : ℕ = length (feeds_in es) in
+    let few : ℕ = length (feeds_in more) in
+    let long : length (feeds_in (es ++ more)) ≡ many + few = ap length feeds ∙ length-append (feeds_in es) (feeds_in more) in
+    record {
+      each = λ k x at. elim (append_cases (feeds_in es) (feeds_in more) k x (subst (λ (xs : List (Option Fragment)). slice_get xs k ≡ Some x) feeds at)) [
+          | inl before ↦ fed.each k x before
+          | inr end ↦ next end.0 x end.2 ∙ (next_is fragments left es end.0 fed ∙ ap (slice_get fragments) (sym end.1))
+        ];
+      left_ = ap (λ (n : ℕ). drop n fragments) long ∙ (sym (drop-drop few many fragments) ∙ (ap (drop few) fed.left_ ∙ behind));
+    }
+
 -- and more entries, which feed nothing
 pub fed_kept : (fragments left : List Fragment) (es more : List Entry) → feeds_in more ≡ [] → AreFed fragments left es → AreFed fragments left (es ++ more)
 fed_kept fragments left es more none fed =
-    fed_same fragments left es (es ++ more) (flat_map-append fed_by es more ∙ (ap (λ (xs : List (Option Fragment)). feeds_in es ++ xs) none ∙ append-nil (feeds_in es))) fed
+    fed_on fragments left left es more (λ k given at. (let never : slice_get [] k ≡ Some given = subst (λ (xs : List (Option Fragment)). slice_get xs k ≡ Some given) none at in absurd cc)) (ap (λ (xs : List (Option Fragment)). drop (length xs) left) none) fed
 
-slice_get-drop : {A : Type 0} (xs : List A) (n : ℕ) → slice_get xs n ≡ slice_get (drop n xs) 0
-slice_get-drop [] zero = refl
-slice_get-drop [] (suc n) = refl
-slice_get-drop (x ∷ xs) zero = refl
-slice_get-drop (x ∷ xs) (suc n) = slice_get-drop xs n
-
--- the first fragment that is left is the next of the media
-next_is : (fragments left : List Fragment) (es : List Entry) → AreFed fragments left es → slice_get left 0 ≡ slice_get fragments (length (feeds_in es))
-next_is fragments left es fed = ap (λ (xs : List Fragment). slice_get xs 0) (sym fed.left_) ∙ sym (slice_get-drop fragments (length (feeds_in es)))
-
--- an item of a list with one more at its end
-push_cases : {A : Type 0} (xs : List A) (x : A) (k : ℕ) (y : A) → slice_get (xs ++ x ∷ []) k ≡ Some y → (slice_get xs k ≡ Some y) ⊎ ((k ≡ length xs) × (y ≡ x))
-push_cases [] x zero y at = inr (refl, cc)
-push_cases [] x (suc k) y at = absurd cc
-push_cases (z ∷ xs) x zero y at = inl at
-push_cases (z ∷ xs) x (suc k) y at =
-    elim (push_cases xs x k y at) [ inl there ↦ inl there | inr end ↦ inr (ap suc end.0, end.1) ]
+only_first : {A : Type 0} (x : A) (k : ℕ) (y : A) → slice_get (x ∷ []) k ≡ Some y → (k ≡ 0) × (y ≡ x)
+only_first x zero y at = (refl, sym (some_same at))
+only_first x (suc k) y at = absurd cc
 
 -- and more entries, which feed the next fragment, or none past the last
 pub fed_more : (fragments left : List Fragment) (es more : List Entry) → feeds_in more ≡ slice_get left 0 ∷ [] → AreFed fragments left es → AreFed fragments (drop 1 left) (es ++ more)
 fed_more fragments left es more next fed =
-    let given : Option Fragment = slice_get left 0 in
-    let many : ℕ = length (feeds_in es) in
-    let feeds : feeds_in (es ++ more) ≡ feeds_in es ++ given ∷ [] = flat_map-append fed_by es more ∙ ap (λ (xs : List (Option Fragment)). feeds_in es ++ xs) next in
-    let long : length (feeds_in (es ++ more)) ≡ many + 1 = ap length feeds ∙ length-append (feeds_in es) (given ∷ []) in
-    record {
-      each = λ k x at. elim (push_cases (feeds_in es) given k x (subst (λ (xs : List (Option Fragment)). slice_get xs k ≡ Some x) feeds at)) [
-          | inl before ↦ fed.each k x before
-          | inr end ↦ end.1 ∙ (next_is fragments left es fed ∙ ap (slice_get fragments) (sym end.0))
-        ];
-      left_ = ap (λ (n : ℕ). drop n fragments) long ∙ (sym (drop-drop 1 many fragments) ∙ ap (drop 1) fed.left_);
-    }
+    fed_on fragments left (drop 1 left) es more
+      (λ k given at. (let one = only_first (slice_get left 0) k given (subst (λ (xs : List (Option Fragment)). slice_get xs k ≡ Some given) next at) in one.1 ∙ ap (slice_get left) (sym one.0)))
+      (ap (λ (xs : List (Option Fragment)). drop (length xs) left) next)
+      fed
 
 -- ---- totals
 
@@ -110,7 +119,7 @@ total_with f g fragments (y ∷ left) es x none some fed at =
 may_feed_given : (media : Media) (ids : List ℕ) (left : List Fragment) (es : List Entry) (given : Option Fragment) → IsFed media → ids ≡ media.tracks → AreFed media.fragments left es → slice_get left 0 ≡ given → MayFeedNext ids es given
 may_feed_given media ids left es None valid is fed next = tt
 may_feed_given media ids left es (Some f) valid is fed next =
-    let at : slice_get media.fragments (length (feeds_in es)) ≡ Some f = sym (next_is media.fragments left es fed) ∙ next in
+    let at : slice_get media.fragments (length (feeds_in es) + 0) ≡ Some f = sym (next_is media.fragments left es 0 fed) ∙ next in
     let samples : sum_by samples_in (feeds_in es) + fragment_samples f ≤ sum_by fragment_samples media.fragments = total_with fragment_samples samples_in media.fragments left es f refl (λ y. refl) fed next in
     let bytes : sum_by bytes_in (feeds_in es) + fragment_bytes f ≤ sum_by fragment_bytes media.fragments = total_with fragment_bytes bytes_in media.fragments left es f refl (λ y. refl) fed next in
     let few : sum_by fragment_samples media.fragments ≤ MAX_SAMPLES = valid.samples in
@@ -118,8 +127,8 @@ may_feed_given media ids left es (Some f) valid is fed next =
     let samples_are : fed_samples es ≡ sum_by samples_in (feeds_in es) = sum_flat fed_samples_of samples_in samples_by es in
     let bytes_are : fed_bytes es ≡ sum_by bytes_in (feeds_in es) = sum_flat fed_bytes_of bytes_in bytes_by es in
     record {
-      known = subst (λ (xs : List ℕ). IsTrue (are_known xs f)) (sym is) (true_at (are_known media.tracks) media.fragments (length (feeds_in es)) f valid.known at);
-      formed = true_at are_well_formed media.fragments (length (feeds_in es)) f valid.formed at;
+      known = subst (λ (xs : List ℕ). IsTrue (are_known xs f)) (sym is) (true_at (are_known media.tracks) media.fragments (length (feeds_in es) + 0) f valid.known at);
+      formed = true_at are_well_formed media.fragments (length (feeds_in es) + 0) f valid.formed at;
       samples = omega (arith, samples_are, samples, few);
       bytes = omega (arith, bytes_are, bytes, small);
     }

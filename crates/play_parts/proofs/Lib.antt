@@ -1,6 +1,9 @@
 pub mod Reading
 pub mod Steps
 pub mod Feeding
+pub mod Scripts
 pub mod Lines
+pub mod Behind
+pub mod Joined
 pub mod Lanes
 pub mod Crews

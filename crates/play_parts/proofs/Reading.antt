@@ -3,7 +3,7 @@ use Rattle.std.proofs.Common.{zero, suc, ◌≡◌, ◌≢◌, ℕ, ◌+◌, Boo
 use Rattle.std.specs.Prelude.{slice_get}
 use Rattle.std.specs.List.{flat_map, list_all, AllByRecursion}
 use Rattle.std.proofs.lemmas.List.Concat.{flat_map-append}
-use Rattle.std.proofs.lemmas.List.Elements.{filter-append, Contains-append_cases, Contains-push_cases}
+use Rattle.std.proofs.lemmas.List.Elements.{filter-append, All-contains, All-from_recursion, Contains-push_cases}
 use Rattle.eme_types.specs.declared.entry.Entry.{Entry}
 use Rattle.eme_types.specs.declared.entry.Entry.TheVariants.{Call, Job, Task, Tick, Feed, Claim, Deliver, GiveUp, Publish, PassClear, WaitForKey, Settle}
 use Rattle.script_lang.specs.declared.script.Line.{Line}
@@ -67,9 +67,7 @@ only_in {X} x y h = ⊎_elim (λ (none : Contains [] y). absurd (nothing_in y no
 
 -- what holds of all holds of each
 pub all_contains : {X : Type 0} (P : X → Type 0) (xs : List X) (x : X) → AllByRecursion P xs → Contains xs x → P x
-all_contains P [] x all h = absurd (nothing_in x h)
-all_contains {X} P (y ∷ xs) x all h =
-    ⊎_elim (λ (k : Contains (y ∷ []) x). subst P (only_in y x k) all.0) (λ (k : Contains xs x). all_contains P xs x all.1 k) (Contains-append_cases (y ∷ []) xs x h)
+all_contains P xs x all h = All-contains P xs x (All-from_recursion P xs all) h
 
 -- ---- lists that are read off entry by entry
 
@@ -93,31 +91,14 @@ lane_flat i (e ∷ es) = filter-append (is_of_lane i) (line_of e) (lines_in es) 
 
 asked_lines : (e : Entry) → flat_map line_of (asked e) ≡ line_of e
 asked_lines (Call lane line call) = append-nil (line_of (Call lane line call))
-asked_lines Job = refl
-asked_lines Task = refl
 asked_lines (Tick line moment) = append-nil (line_of (Tick line moment))
 asked_lines (Feed line fragment) = append-nil (line_of (Feed line fragment))
-asked_lines (Claim worker track index session kid) = refl
-asked_lines (Deliver place verdict) = refl
-asked_lines (GiveUp place) = refl
-asked_lines (Publish track index place) = refl
-asked_lines (PassClear track index) = refl
-asked_lines (WaitForKey track) = refl
 asked_lines (Settle line) = append-nil (line_of (Settle line))
+asked_lines e = refl
 
 asked_feeds : (e : Entry) → flat_map fed_by (asked e) ≡ fed_by e
-asked_feeds (Call lane line call) = refl
-asked_feeds Job = refl
-asked_feeds Task = refl
-asked_feeds (Tick line moment) = refl
 asked_feeds (Feed line fragment) = refl
-asked_feeds (Claim worker track index session kid) = refl
-asked_feeds (Deliver place verdict) = refl
-asked_feeds (GiveUp place) = refl
-asked_feeds (Publish track index place) = refl
-asked_feeds (PassClear track index) = refl
-asked_feeds (WaitForKey track) = refl
-asked_feeds (Settle line) = refl
+asked_feeds e = refl
 
 -- a list that only entries which are a line's or implied give is read off these
 flat_asked : {A : Type 0} (f : Entry → List A) → ((e : Entry) → flat_map f (asked e) ≡ f e) → (h : List Entry) → flat_map f (asked_in h) ≡ flat_map f h

@@ -55,60 +55,33 @@ steps_claim place behind track index session kid verdict =
 
 pub step_line : (e : Entry) → IsStep e → line_of e ≡ []
 step_line (Call lane line call) s = absurd s
-step_line Job s = refl
-step_line Task s = refl
 step_line (Tick line moment) s = absurd s
 step_line (Feed line fragment) s = absurd s
-step_line (Claim worker track index session kid) s = refl
-step_line (Deliver place verdict) s = refl
 step_line (GiveUp place) s = absurd s
-step_line (Publish track index place) s = refl
-step_line (PassClear track index) s = refl
-step_line (WaitForKey track) s = refl
 step_line (Settle line) s = absurd s
+step_line e s = refl
 
 pub step_asked : (e : Entry) → IsStep e → asked e ≡ []
 step_asked (Call lane line call) s = absurd s
-step_asked Job s = refl
-step_asked Task s = refl
 step_asked (Tick line moment) s = absurd s
 step_asked (Feed line fragment) s = absurd s
-step_asked (Claim worker track index session kid) s = refl
-step_asked (Deliver place verdict) s = refl
 step_asked (GiveUp place) s = absurd s
-step_asked (Publish track index place) s = refl
-step_asked (PassClear track index) s = refl
-step_asked (WaitForKey track) s = refl
 step_asked (Settle line) s = absurd s
+step_asked e s = refl
 
 pub step_feeds : (e : Entry) → IsStep e → fed_by e ≡ []
 step_feeds (Call lane line call) s = absurd s
-step_feeds Job s = refl
-step_feeds Task s = refl
 step_feeds (Tick line moment) s = absurd s
 step_feeds (Feed line fragment) s = absurd s
-step_feeds (Claim worker track index session kid) s = refl
-step_feeds (Deliver place verdict) s = refl
 step_feeds (GiveUp place) s = absurd s
-step_feeds (Publish track index place) s = refl
-step_feeds (PassClear track index) s = refl
-step_feeds (WaitForKey track) s = refl
 step_feeds (Settle line) s = absurd s
+step_feeds e s = refl
 
 pub step_of_lane_0 : (e : Entry) → IsStep e → IsOfLane0 e
 step_of_lane_0 (Call lane line call) s = absurd s
-step_of_lane_0 Job s = tt
-step_of_lane_0 Task s = tt
 step_of_lane_0 (Tick line moment) s = absurd s
 step_of_lane_0 (Feed line fragment) s = absurd s
 step_of_lane_0 (Claim worker track index session kid) s = s
-step_of_lane_0 (Deliver place verdict) s = tt
 step_of_lane_0 (GiveUp place) s = absurd s
-step_of_lane_0 (Publish track index place) s = tt
-step_of_lane_0 (PassClear track index) s = tt
-step_of_lane_0 (WaitForKey track) s = tt
 step_of_lane_0 (Settle line) s = absurd s
-
--- a step is no tick
-pub step_no_tick : (line moment : ℕ) → IsStep (Tick line moment) → ⊥
-step_no_tick line moment s = s
+step_of_lane_0 e s = tt
