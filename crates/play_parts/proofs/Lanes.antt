@@ -43,7 +43,7 @@ lane_done script k es is = ap (λ (ls : List Line). lane ls k) is ∙ lane_same 
 lane_other : (script : List Line) (k i : ℕ) (es : List Entry) → k ≢ i → lines_in es ≡ lane script k → lane (lines_in es) i ≡ []
 lane_other script k i es other is = ap (λ (ls : List Line). lane ls i) is ∙ lane_none i k (lane script k) other (are_of k script)
 
-of_lanes : (e : Entry) → IsOfLane0 e → IsOfLanes e
+pub of_lanes : (e : Entry) → IsOfLane0 e → IsOfLanes e
 of_lanes (Call lane line call) h = omega (arith, h)
 of_lanes (Claim worker track index session kid) h = h
 of_lanes (GiveUp place) h = h

@@ -7,3 +7,7 @@ pub mod Behind
 pub mod Joined
 pub mod Lanes
 pub mod Crews
+mod Tail
+mod Team
+mod Complete
+mod Staff
