@@ -10,3 +10,4 @@ pub mod Following
 pub mod Parts
 pub mod Joining
 pub mod Within
+pub mod Bounds
