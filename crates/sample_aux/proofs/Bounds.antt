@@ -41,9 +41,18 @@ inits_short file (s ∷ ss) =
     let init : InitData = record { kind = Cenc; bytes = flat_map (λ x. box_bytes file x) (s ∷ ss) } in
     omega (arith, all, sum_by-cons init_bytes init [])
 
-pub one_init : (file : List ℕ) (ss : List Span) → length (inits_of file ss) ≤ 1
+one_init : (file : List ℕ) (ss : List Span) → length (inits_of file ss) ≤ 1
 one_init file [] = omega arith
 one_init file (s ∷ ss) = omega arith
+
+-- the answer of init_data_of
+pub made_few : {E : Type 0} (r : Result (List InitData) E) (file : List ℕ) (ss : List Span) → IfOk r (λ x. x ≡ inits_of file ss) → IfOk r (λ x. length x ≤ 1)
+made_few (Ok x) file ss h = subst (λ (y : List InitData). length y ≤ 1) (sym h) (one_init file ss)
+made_few (Err e) file ss h = tt
+
+pub made_short : {E : Type 0} (r : Result (List InitData) E) (file : List ℕ) (ss : List Span) → IfOk r (λ x. x ≡ inits_of file ss) → IfOk r (λ x. sum_by init_bytes x ≤ sum_by span_bytes ss)
+made_short (Ok x) file ss h = subst (λ (y : List InitData). sum_by init_bytes y ≤ sum_by span_bytes ss) (sym h) (inits_short file ss)
+made_short (Err e) file ss h = tt
 
 abbrev pub InitsWithin : Moof → Fragment → Type 0
 InitsWithin moof f = (length f.inits ≤ 1) × (fragment_init_bytes f ≤ sum_by span_bytes moof.psshs)
