@@ -11,3 +11,4 @@ pub mod Parts
 pub mod Joining
 pub mod Within
 pub mod Bounds
+pub mod FewSubs

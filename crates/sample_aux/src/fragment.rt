@@ -5,7 +5,7 @@ ghost use Rattle.std.specs.Option.{option_map};
 ghost use Rattle.eme_types.specs.Fed.{has_samples, are_known, is_joined, are_well_formed, fragment_samples, fragment_bytes};
 ghost use Rattle.frag_boxes.specs.Extents.{span_bytes};
 ghost use Rattle.frag_boxes.specs.Tracks.{track_ids};
-ghost use Rattle.sample_aux.specs.Bounds.{fragment_init_bytes};
+ghost use Rattle.sample_aux.specs.Bounds.{fragment_init_bytes, FragmentHasFewSubs};
 ghost use Rattle.sample_aux.specs.Faults.{Gives};
 ghost use Rattle.sample_aux.specs.Near.{IsNear, EndsNear};
 ghost use Rattle.sample_aux.specs.Resolve.{track_with, entry_with, traf_resolved, trafs_resolved, met, put_part, put_left, all_joined, fragment_of, known_resolved, resolved};
@@ -217,6 +217,7 @@ pub fn resolve(
 
     // no more than the boxes have
     ensures init_bytes { IfOk result (λ x. fragment_init_bytes x ≤ sum_by span_bytes moof.now.psshs) }
+    ensures subs { IfOk result (FragmentHasFewSubs (length file.now)) }
 {
     let known = known_protection(alloc, file, movie)?;
     resolve_known(alloc, file, &known, moof, room)
@@ -240,6 +241,7 @@ pub fn resolve_known(
 
     // no more than the boxes have
     ensures init_bytes { IfOk result (λ x. fragment_init_bytes x ≤ sum_by span_bytes moof.now.psshs) }
+    ensures subs { IfOk result (FragmentHasFewSubs (length file.now)) }
 {
     resolve_all(alloc, file, known, moof, room)
 }

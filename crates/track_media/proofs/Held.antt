@@ -124,10 +124,10 @@ file_holds file m h =
 -- ---- the answer of parse_media
 
 by_form : (c : Bool) (list mp4 : Result Media MediaFault) (m : Media) → (if c then list else mp4) ≡ Ok m → c ≡ false → mp4 ≡ Ok m
-by_form true list mp4 m h no = absurd cc
-by_form false list mp4 m h no = h
+by_form true list mp4 m h e = absurd cc
+by_form false list mp4 m h e = h
 
 pub media_hold : (r : Result Media MediaFault) (file : List ℕ) → GivesMedia r (media_of file) → IfOk r (λ m. is_list file ≡ false → HoldsNoMore file m)
 unfolding media_of
-media_hold (Ok m) file h = λ no. file_holds file m (by_form (is_list file) (list_media (drop 7 file)) (mp4_media file) m h no)
+media_hold (Ok m) file h = λ e. file_holds file m (by_form (is_list file) (list_media (drop 7 file)) (mp4_media file) m h e)
 media_hold (Err e) file h = tt
