@@ -24,7 +24,6 @@ fn read_either(alloc: Global, bytes: &[u8]) -> Result<Media, MediaFault>
 
 /// Reads a media file: a sample list, or fragmented MP4. A refusal has the place of the first byte of what breaks a rule:
 /// the line, or the box.
-#[tactic(auto, using(crate::proofs::Held::media_hold))]
 pub fn parse_media(alloc: Global, bytes: &[u8]) -> Result<Media, MediaFault>
     ensures value { GivesMedia result (media_of bytes.now) }
     ensures fed { IfOk result (λ m. IsFed m) }
