@@ -289,7 +289,15 @@ fn other_bytes_are_refused(rt: HostRuntime) -> Result<(), Fail> {
         (&[(229, 7)], 214, MediaKind::IvSize),
         // cbcs with a pattern of no block in two
         (
-            &[(199, b'b'), (200, b'c'), (201, b's'), (222, 1), (227, 2), (228, 1), (229, 16)],
+            &[
+                (199, b'b'),
+                (200, b'c'),
+                (201, b's'),
+                (222, 1),
+                (227, 2),
+                (228, 1),
+                (229, 16),
+            ],
             214,
             MediaKind::Pattern,
         ),
@@ -310,7 +318,11 @@ fn other_bytes_are_refused(rt: HostRuntime) -> Result<(), Fail> {
         // the pair in the senc
         (&[(471, 17)], 430, MediaKind::SubsSum),
         // without senc: more samples in the saiz, another size in it, an offset behind the file, and no saiz
-        (&[(434, b'x'), (488, 3), (484, 2)], 472, MediaKind::CountDiffers),
+        (
+            &[(434, b'x'), (488, 3), (484, 2)],
+            472,
+            MediaKind::CountDiffers,
+        ),
         (&[(434, b'x'), (490, 25)], 472, MediaKind::AuxSize),
         (&[(434, b'x'), (513, 255)], 491, MediaKind::OffsetPastEnd),
         (&[(434, b'x'), (476, b'x')], 294, MediaKind::NoAux),
@@ -346,7 +358,10 @@ fn tracks_are_few_and_distinct(rt: HostRuntime) -> Result<(), Fail> {
     let alloc = rt.alloc();
     let eight = movie_of(alloc, &[1, 2, 3, 4, 5, 6, 7, 8])?;
     let media = parse_media(alloc, eight.as_slice())?;
-    assert_eq!(rt; media.tracks.as_slice(), [1, 2, 3, 4, 5, 6, 7, 8].as_slice());
+    assert_eq!(rt;
+        media.tracks.as_slice(),
+        [1, 2, 3, 4, 5, 6, 7, 8].as_slice()
+    );
     let nine = movie_of(alloc, &[1, 2, 3, 4, 5, 6, 7, 8, 9])?;
     assert!(rt; is_refused(alloc, nine.as_slice(), 264, MediaKind::TooManyTracks));
     let twice = movie_of(alloc, &[1, 1])?;
