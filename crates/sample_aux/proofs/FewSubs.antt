@@ -1,24 +1,20 @@
 -- No sample has more subsamples than the file has bytes.
-use Rattle.std.proofs.Common.{◌≡◌, inl, inr, ℕ, zero, suc, ◌+◌, ◌≤◌, Bool, true, false, List, [], ◌∷◌, ◌++◌, length, map, take, drop, Option, Some, None, Result, Ok, Err, refl, subst, arith}
-use Rattle.std.specs.Prelude.{IfOk, IfSome, ℤ, unsigned_abs, ◌==◌, not, if◌then◌else◌, filter, cond, unwrap_or}
+use Rattle.std.proofs.Common.{◌≡◌, ℕ, zero, suc, ◌+◌, ◌≤◌, Bool, true, false, List, [], ◌∷◌, ◌++◌, length, map, drop, Option, Some, None, Result, Ok, Err, refl, subst, arith}
+use Rattle.std.specs.Prelude.{IfOk, IfSome, ℤ, unsigned_abs, ◌==◌, not, if◌then◌else◌, unwrap_or}
 use Rattle.std.specs.List.{All}
-use Rattle.std.proofs.lemmas.Bool.Decides.{eqb_tells}
 use Rattle.std.proofs.lemmas.List.{length-take, length-drop}
 use Rattle.std.proofs.lemmas.List.Elements.{All-nil, All-cons, All-head, All-tail, All-append, All-weaker, All-filter}
 use Rattle.eme_types.specs.declared.sample.EncSample.{EncSample}
 use Rattle.eme_types.specs.declared.sample.Protect.{Protect}
-use Rattle.eme_types.specs.declared.sample.Iv.{Iv}
 use Rattle.eme_types.specs.declared.media.TrackPart.{TrackPart}
 use Rattle.eme_types.specs.declared.media.Fragment.{Fragment}
 use Rattle.eme_types.specs.Fed.{has_samples}
-use Rattle.iso_boxes.specs.Walk.{Found}
 use Rattle.iso_boxes.specs.Children.{◌>>=◌, required, placed}
 use Rattle.prot_boxes.specs.Answers.{fault_at as prot_fault_at}
 use Rattle.prot_boxes.specs.Senc.{senc_fields, senc_at, item}
 use Rattle.prot_boxes.specs.declared.fault.ProtKind.{ProtKind}
 use Rattle.prot_boxes.specs.declared.fault.ProtFault.{ProtFault}
 use Rattle.prot_boxes.specs.declared.senc.SencItem.{SencItem}
-use Rattle.prot_boxes.specs.declared.senc.Senc.{Senc}
 use Rattle.prot_boxes.specs.declared.sinf.Sinf.{Sinf}
 use Rattle.prot_boxes.proofs.Few.{few_subs, senc_item_takes}
 use Rattle.frag_boxes.specs.declared.records.Span.{Span}
@@ -40,7 +36,7 @@ use Rattle.sample_aux.specs.InOrder.{in_order, each_passes}
 use Rattle.sample_aux.specs.Counting.{count_fields}
 use Rattle.sample_aux.specs.Laying.{base_of, is_outside, runs_laid}
 use Rattle.sample_aux.specs.Groups.{protection_of}
-use Rattle.sample_aux.specs.Auxiliary.{iv_size_of, by_senc, unless_zero, senc_of, used_saiz, used_saio, data_ranges, exactly, data_of, nothing, data_at, rule_of, range_of, by_ranges, by_sizes, no_data, by_used, auxiliary_of}
+use Rattle.sample_aux.specs.Auxiliary.{iv_size_of, by_senc, senc_of, used_saiz, used_saio, data_ranges, exactly, data_of, nothing, data_at, rule_of, range_of, by_ranges, by_sizes, no_data, by_used, auxiliary_of}
 use Rattle.sample_aux.specs.Bounds.{count_subs, HasFewSubs, FragmentHasFewSubs}
 use Rattle.sample_aux.specs.Resolve.{entry_with, track_with, iv_of, protect_of, item_of, place_of, sample_at, samples_at, sample_passes, samples_of, traf_resolved, trafs_resolved, put_part, joined, all_joined, begin, fragment_of, known_resolved}
 use Rattle.sample_aux.proofs.Within.{bound, same_ok}
