@@ -1,6 +1,6 @@
 -- The boxes of a file do not overlap, so what is held of them is no more than the file.
 use Rattle.std.proofs.Common.{◌≡◌, ℕ, ◌+◌, ◌≤◌, Bool, true, false, List, [], ◌∷◌, ◌++◌, length, Option, Some, None, Result, Ok, Err, refl, subst, arith}
-use Rattle.std.specs.Prelude.{IfOk, take, drop, bytes_eq, if◌then◌else◌}
+use Rattle.std.specs.Prelude.{IfOk, drop, if◌then◌else◌}
 use Rattle.std.specs.List.{All, sum_by}
 use Rattle.std.proofs.lemmas.List.Elements.{All-nil, All-cons, All-head, All-tail}
 use Rattle.std.proofs.lemmas.List.Sums.{sum_by-cons, sum_by-append}
@@ -8,10 +8,10 @@ use Rattle.eme_types.specs.declared.media.InitData.{InitData}
 use Rattle.eme_types.specs.declared.media.Fragment.{Fragment}
 use Rattle.eme_types.specs.declared.media.Media.{Media}
 use Rattle.iso_boxes.specs.Walk.{Found, Walked, walk}
-use Rattle.iso_boxes.specs.Children.{◌>>=◌, each_knowing, ended, all_knowing}
+use Rattle.iso_boxes.specs.Children.{each_knowing, ended, all_knowing}
 use Rattle.frag_boxes.specs.Moov.{moov_at}
 use Rattle.frag_boxes.specs.Moof.{moof_at}
-use Rattle.frag_boxes.specs.Extents.{span_bytes, movie_bytes}
+use Rattle.frag_boxes.specs.Extents.{movie_bytes}
 use Rattle.frag_boxes.proofs.Taking.{then_ok, total, walk_took, all_small}
 use Rattle.frag_boxes.proofs.Few.{same_size}
 use Rattle.frag_boxes.proofs.Extents.{moov_takes, moof_takes}
@@ -29,9 +29,9 @@ use Rattle.track_media.specs.declared.top.Seen.{Seen}
 use Rattle.track_media.specs.declared.top.TopPart.{TopPart}
 use Rattle.track_media.specs.declared.top.TopPart.TheVariants as part
 use Rattle.track_media.specs.Refusals.{header_fault, frag_fault, aux_fault, told}
-use Rattle.track_media.specs.Mp4.{movie_at, fragment_at, top_box, moov_part, moof_part, top_part_as, top_part_at, movie_in, fragments_in, seen_from, tracks_of, movie_inits, with_first, media_from, media_of_parts, followed_by, mp4_media}
+use Rattle.track_media.specs.Mp4.{movie_at, fragment_at, top_box, moov_part, moof_part, top_part_as, top_part_at, movie_in, fragments_in, seen_from, movie_inits, with_first, media_of_parts, followed_by, mp4_media}
 use Rattle.track_media.specs.SampleList.{list_media}
-use Rattle.track_media.specs.File.{GivesMedia, header, media_of}
+use Rattle.track_media.specs.File.{GivesMedia, media_of}
 use Rattle.track_media.specs.Held.{is_list, HoldsNoMore}
 
 told_ok : {A E : Type 0} (f : E → MediaFault) (r : Result A E) (x : A) → told f r ≡ Ok x → r ≡ Ok x

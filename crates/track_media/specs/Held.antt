@@ -1,5 +1,5 @@
 -- What the media of an MP4 file hold of the file beside the bytes of their samples.
-use Rattle.std.specs.Prelude.{◌≡◌, ℕ, ◌+◌, ◌≤◌, Bool, List, length, take, bytes_eq}
+use Rattle.std.specs.Prelude.{ℕ, ◌+◌, ◌≤◌, Bool, List, length, take, bytes_eq}
 use Rattle.std.specs.List.{All, sum_by}
 use Rattle.eme_types.specs.declared.media.Media.{Media}
 use Rattle.sample_aux.specs.Bounds.{fragment_init_bytes, FragmentHasFewSubs}
