@@ -22,6 +22,7 @@ use Rattle.play_parts.specs.Parts.{LanesOver}
 use Rattle.play_parts.specs.Crew.{IsOfCrew, IsClaimOf, CrewIn}
 use Rattle.play_parts.specs.Whole.{TeamOver}
 use Rattle.play_parts.proofs.Reading.{all_mapped, all_contains, nothing_in, only_in}
+use Rattle.play_parts.proofs.Steps.{ended_none}
 use Rattle.play_parts.proofs.Joined.{own_same, own_left, own_right, own_either}
 
 -- ---- what one worker has added
@@ -83,7 +84,7 @@ more_crew j k e le h = h
 crew_none : CrewIn 0 []
 crew_none = record {
   kinds = tt;
-  ended = λ p e h k. absurd (nothing_in (p, e) h);
+  ended = ended_none;
   theirs = λ q place h. absurd (nothing_in (q, GiveUp place) h);
   few = λ worker q r place other h c g d. absurd (nothing_in (q, GiveUp place) h);
 }
@@ -98,7 +99,7 @@ claim_of k news q place w h =
     go e h c is = absurd c
 
 -- a place has a claim of one worker
-pub same_worker : (own more : List ℕ) (u : List Entry) (v w place : ℕ) → IsClaimOf v (own_in own u) place → IsClaimOf w (own_in more u) place → v ≡ w
+same_worker : (own more : List ℕ) (u : List Entry) (v w place : ℕ) → IsClaimOf v (own_in own u) place → IsClaimOf w (own_in more u) place → v ≡ w
 same_worker own more u v w place f g =
     let same : Claim v f.0 f.1 f.2 f.3 ≡ Claim w g.0 g.1 g.2 g.3 = own_same own more u place (Claim v f.0 f.1 f.2 f.3) (Claim w g.0 g.1 g.2 g.3) f.4 g.4 in cc
 

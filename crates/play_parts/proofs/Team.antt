@@ -2,6 +2,7 @@
 use Rattle.std.proofs.Common.{zero, suc, ◌≡◌, ℕ, ◌+◌, ◌<◌, ◌≤◌, ◌⊎◌, List, [], ◌∷◌, ◌++◌, Contains, Some, length, refl, ap, sym, subst, ◌∙◌, arith, inl, inr}
 use Rattle.std.specs.Prelude.{slice_get}
 use Rattle.std.specs.List.{flat_map, AllByRecursion}
+use Rattle.std.proofs.lemmas.List.{length-map}
 use Rattle.std.proofs.lemmas.Option.{slice_get_within}
 use Rattle.eme_types.specs.declared.media.Media.{Media}
 use Rattle.eme_types.specs.declared.entry.Entry.{Entry}
@@ -45,13 +46,9 @@ all_owned place own (e ∷ es) n all lt =
     at zero lt some more = subst (λ (p : ℕ). 0 < times p own) (let same : place ≡ place + 0 = omega arith in same) some
     at (suc m) lt some more = subst (λ (p : ℕ). 0 < times p own) (let same : place + 1 + m ≡ place + suc m = omega arith in same) (more m (omega (arith, lt)))
 
-length_entries : (news : Placed) → length (entries news) ≡ length news
-length_entries [] = refl
-length_entries (x ∷ news) = let rest : length (entries news) ≡ length news = length_entries news in omega (arith, rest)
-
 own_entry : (own : List ℕ) (h : List Entry) (n : ℕ) (e : Entry) → entries (own_in own h) ≡ h → slice_get h n ≡ Some e → Contains (own_in own h) (1 + n, e)
 own_entry own h n e whole at =
-    let same : length h ≡ length (own_in own h) = sym (ap length whole) ∙ length_entries (own_in own h) in
+    let same : length h ≡ length (own_in own h) = sym (ap length whole) ∙ length-map (own_in own h) (λ (x : ℕ × Entry). x.1) in
     own_contains 1 own h n e at (all_owned 1 own h n (omega (arith, same)) (slice_get_within h n e at))
 
 all_from_at : (P : Entry → Type 0) (xs : List Entry) → ((n : ℕ) (e : Entry) → slice_get xs n ≡ Some e → P e) → AllByRecursion P xs
