@@ -1,13 +1,13 @@
 -- What follows the last line.
-use Rattle.std.proofs.Common.{zero, suc, ◌≡◌, ℕ, ◌+◌, ◌<◌, ◌≤◌, List, [], ◌∷◌, ◌++◌, Option, Some, length, map, drop, refl, ap, ◌∙◌, sym, subst, append-nil, append_assoc, arith}
+use Rattle.std.proofs.Common.{zero, suc, ◌≡◌, ℕ, ◌<◌, List, [], ◌∷◌, ◌++◌, Option, Some, length, map, drop, refl, ap, ◌∙◌, sym, subst, append_assoc, arith}
 use Rattle.std.specs.Prelude.{slice_get}
-use Rattle.std.specs.List.{flat_map, AllByRecursion}
+use Rattle.std.specs.List.{AllByRecursion}
 use Rattle.std.proofs.lemmas.List.Concat.{flat_map-append}
 use Rattle.eme_types.specs.declared.media.Fragment.{Fragment}
 use Rattle.eme_types.specs.declared.entry.Entry.{Entry}
 use Rattle.eme_types.specs.declared.entry.Entry.TheVariants.{Feed, Settle}
 use Rattle.output_order.specs.Lane.{asked, asked_in, feeds_in, fed_by}
-use Rattle.output_order.specs.Complete.{feed_rest, implied}
+use Rattle.output_order.specs.Complete.{feed_rest}
 use Rattle.decrypt_workers.specs.Desks.{Placed}
 use Rattle.shared_cdm.specs.Own.{entries}
 use Rattle.play_parts.specs.Parts.{AreSteps, AreFed, IsOfLane0, HasFollowed}

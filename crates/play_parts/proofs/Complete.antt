@@ -5,20 +5,20 @@ use Rattle.std.proofs.lemmas.List.{length-drop}
 use Rattle.eme_types.specs.declared.media.Fragment.{Fragment}
 use Rattle.eme_types.specs.declared.media.Media.{Media}
 use Rattle.eme_types.specs.declared.entry.Entry.{Entry}
-use Rattle.eme_types.specs.declared.entry.Entry.TheVariants.{Call, Job, Task, Tick, Feed, Claim, Deliver, GiveUp, Publish, PassClear, WaitForKey, Settle}
+use Rattle.eme_types.specs.declared.entry.Entry.TheVariants.{Call, Tick, Feed, Settle}
 use Rattle.script_lang.specs.declared.script.Line.{Line}
 use Rattle.cdm_state.specs.History.{world, IsLegal, AtRest}
-use Rattle.output_order.specs.Lane.{line_of, lines_in, lane, asked, asked_in, fed_by, feeds_in}
+use Rattle.output_order.specs.Lane.{lines_in, lane, asked, asked_in, fed_by, feeds_in}
 use Rattle.output_order.specs.Complete.{HasLane, FeedsDone, feed_rest, implied, IsComplete}
 use Rattle.shared_cdm.specs.Own.{own_in, entries}
 use Rattle.play_parts.specs.Asks.{IsOfLanes}
-use Rattle.play_parts.specs.Parts.{AreFed, HasFollowed}
+use Rattle.play_parts.specs.Parts.{AreFed}
 use Rattle.play_parts.specs.Crew.{IsOfCrew}
 use Rattle.play_parts.specs.Whole.{TeamOver}
 use Rattle.play_parts.proofs.Reading.{flat_both, line_at, lane_flat, lines_asked, feeds_asked}
 use Rattle.play_parts.proofs.Feeding.{fed_same}
 use Rattle.play_parts.proofs.Behind.{followed_fed}
-use Rattle.play_parts.proofs.Tail.{RestLaws, stays_at_rest}
+use Rattle.play_parts.proofs.Tail.{stays_at_rest}
 use Rattle.play_parts.proofs.Team.{of_either, read, crew_behind}
 
 -- ---- workers make no line's entry
@@ -67,8 +67,8 @@ none_left n xs is = let many = length-drop n xs in let none = ap length is in om
 done_feeds : (fragments : List Fragment) (h : List Entry) → AreFed fragments [] h → FeedsDone fragments h
 done_feeds fragments h fed = record { each = fed.each; all = none_left (length (feeds_in h)) fragments fed.left_ }
 
-pub is_complete : (laws : RestLaws) (script : List Line) (media : Media) (k : ℕ) (own : List ℕ) (h : List Entry) → IsLegal media.tracks h → TeamOver script media k own h → entries (own_in own h) ≡ h → IsComplete script media h
-is_complete laws script media k own h legal team whole =
+pub is_complete : (script : List Line) (media : Media) (k : ℕ) (own : List ℕ) (h : List Entry) → IsLegal media.tracks h → TeamOver script media k own h → entries (own_in own h) ≡ h → IsComplete script media h
+is_complete script media k own h legal team whole =
     let over = team.lanes in
     let lines : List Entry = entries over.lines in
     let behind : List Entry = entries over.behind in
@@ -76,7 +76,7 @@ is_complete laws script media k own h legal team whole =
     let no_lines : lines_in behind ≡ [] = lines_behind over.left behind follows in
     let same : feeds_in h ≡ feeds_in (entries (over.lines ++ over.behind)) = read script media k own h team whole fed_by (crew_fed k) ∙ sym (flat_both fed_by over.lines over.behind) in
     let next : drop (length (feeds_in (asked_in lines))) media.fragments ≡ over.left = ap (λ (n : ℕ). drop n media.fragments) (ap length (feeds_asked lines)) ∙ over.lanes.fed.left_ in
-    let rested : AtRest (world media.tracks (team.before ++ team.later.0)) = stays_at_rest laws media.tracks k team.before team.later.0 (subst (IsLegal media.tracks) (sym team.later.1) legal) over.rest (crew_behind script media k own h team whole) in
+    let rested : AtRest (world media.tracks (team.before ++ team.later.0)) = stays_at_rest media.tracks k team.before team.later.0 (subst (IsLegal media.tracks) (sym team.later.1) legal) over.rest (crew_behind script media k own h team whole) in
     record {
       lanes = λ i lt. lane_flat i h ∙ (read script media k own h team whole (line_at i) (crew_line k i) ∙ (ap (λ (xs : List Line). flat_map (line_at i) lines ++ xs) (sym (lane_flat i behind) ∙ ap (λ (ls : List Line). lane ls i) no_lines) ∙ (append-nil (flat_map (line_at i) lines) ∙ (sym (lane_flat i lines) ∙ over.lanes.done i (omega (arith, lt))))));
       known = of_either script media k own h team whole HasLane lanes_lane (crew_lane k);

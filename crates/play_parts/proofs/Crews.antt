@@ -1,28 +1,28 @@
 -- The workers, one after the other.
-use Rattle.std.proofs.Common.{◌≡◌, ℕ, ◌+◌, ◌<◌, ◌≤◌, ◌⊎◌, List, [], ◌∷◌, ◌++◌, Contains, Some, None, refl, ap, sym, subst, ◌∙◌, arith, append-nil, append_assoc, inl, inr}
-use Rattle.std.specs.List.{AllByRecursion}
+use Rattle.std.proofs.Common.{◌≡◌, ℕ, ◌+◌, ◌<◌, ◌≤◌, List, [], ◌∷◌, ◌++◌, Contains, Some, None, refl, ap, sym, subst, ◌∙◌, arith, append-nil, append_assoc, inl, inr}
 use Rattle.std.proofs.lemmas.List.Elements.{recursion_from_All, All-contains, Contains-append_cases, Contains-push_cases}
 use Rattle.std.proofs.lemmas.List.Sums.{sum_by-cons}
 use mathlib.Core.List.{IsPrefix}
 use Rattle.eme_types.specs.declared.media.Media.{Media}
 use Rattle.eme_types.specs.declared.entry.Entry.{Entry}
-use Rattle.eme_types.specs.declared.entry.Entry.TheVariants.{Call, Job, Task, Tick, Feed, Claim, Deliver, GiveUp, Publish, PassClear, WaitForKey, Settle}
+use Rattle.eme_types.specs.declared.entry.Entry.TheVariants.{Claim, GiveUp}
 use Rattle.script_lang.specs.declared.script.Line.{Line}
 use Rattle.book_lock.specs.Places.{times}
 use Rattle.book_lock.proofs.Counts.{times-append}
 use Rattle.book_lock.proofs.Fronts.{prefix_self}
 use Rattle.decrypt_workers.specs.Desks.{Placed}
-use Rattle.decrypt_workers.specs.Workers.{IsOfWorker, IsAnyClaim, gives_up, given_up, Worked, Works, GivesUp, WorksTo}
+use Rattle.decrypt_workers.specs.Workers.{IsOfWorker, IsAnyClaim, gives_up, given_up, Worked, WorksTo}
 use Rattle.decrypt_workers.specs.declared.worker.WorkEnd.{WorkEnd}
 use Rattle.decrypt_workers.specs.declared.worker.WorkEnd.TheVariants.{Over, OutOfMemory}
 use Rattle.decrypt_workers.proofs.Works.{prefix_trans}
-use Rattle.shared_cdm.specs.Own.{own_in, AreSeen, entries}
+use Rattle.shared_cdm.specs.Own.{own_in, AreSeen}
 use Rattle.shared_cdm.proofs.Own.{own_later, own_beyond}
 use Rattle.shared_cdm.proofs.Parts.{own_all}
 use Rattle.play_parts.specs.Parts.{LanesOver}
 use Rattle.play_parts.specs.Crew.{IsOfCrew, IsClaimOf, CrewIn}
 use Rattle.play_parts.specs.Whole.{TeamOver}
 use Rattle.play_parts.proofs.Reading.{all_mapped, all_contains, nothing_in, only_in}
+use Rattle.play_parts.proofs.Steps.{ended_none}
 use Rattle.play_parts.proofs.Joined.{own_same, own_left, own_right, own_either}
 
 -- ---- what one worker has added
@@ -53,11 +53,14 @@ give_up_last news last claim q place none h =
 did : {O S : Type 0} (k : ℕ) (s : List Entry) (o : Placed) (s' : List Entry) (o' : Placed) (end : WorkEnd O S) → WorksTo k s o s' o' end → (news : Placed) × (o' ≡ o ++ news) × WorkedOnce k news
 did k s o s' o' (Over x) w = (w.news, w.own, record { worked = w.worked; once = λ q r place other h g. absurd (no_give_up w.news q place w.none h) })
 did k s o s' o' (OutOfMemory (Some x)) w = (w.news, w.own, record { worked = w.worked; once = λ q r place other h g. absurd (no_give_up w.news q place w.none h) })
-did k s o s' o' (OutOfMemory None) w =
-    (w.news ++ (w.place, GiveUp w.claim) ∷ [], w.own, record {
-      worked = w.worked;
-      once = λ q r place other h g. give_up_last w.news w.place w.claim q place w.none h ∙ sym (give_up_last w.news w.place w.claim r other w.none g);
-    })
+did k s o s' o' (OutOfMemory None) w = (
+  w.news ++ (w.place, GiveUp w.claim) ∷ [],
+  w.own,
+  record {
+    worked = w.worked;
+    once = λ q r place other h g. give_up_last w.news w.place w.claim q place w.none h ∙ sym (give_up_last w.news w.place w.claim r other w.none g);
+  },
+)
 
 none_own : (own : List ℕ) (s : List Entry) → own ≡ [] → own_in own s ≡ []
 none_own own s none = own_beyond 1 own s (λ p le. ap (times p) none)
@@ -81,7 +84,7 @@ more_crew j k e le h = h
 crew_none : CrewIn 0 []
 crew_none = record {
   kinds = tt;
-  ended = λ p e h k. absurd (nothing_in (p, e) h);
+  ended = ended_none;
   theirs = λ q place h. absurd (nothing_in (q, GiveUp place) h);
   few = λ worker q r place other h c g d. absurd (nothing_in (q, GiveUp place) h);
 }
@@ -96,7 +99,7 @@ claim_of k news q place w h =
     go e h c is = absurd c
 
 -- a place has a claim of one worker
-pub same_worker : (own more : List ℕ) (u : List Entry) (v w place : ℕ) → IsClaimOf v (own_in own u) place → IsClaimOf w (own_in more u) place → v ≡ w
+same_worker : (own more : List ℕ) (u : List Entry) (v w place : ℕ) → IsClaimOf v (own_in own u) place → IsClaimOf w (own_in more u) place → v ≡ w
 same_worker own more u v w place f g =
     let same : Claim v f.0 f.1 f.2 f.3 ≡ Claim w g.0 g.1 g.2 g.3 = own_same own more u place (Claim v f.0 f.1 f.2 f.3) (Claim w g.0 g.1 g.2 g.3) f.4 g.4 in cc
 
@@ -126,23 +129,23 @@ module _ (k j : ℕ) (a b : List ℕ) (u : List Entry) (next : k ≡ j + 1) (c :
         (all_mapped (λ (x : ℕ × Entry). IsOfCrew j x.1) (λ (x : ℕ × Entry). IsOfCrew k x.1) (λ x h. more_crew j k x.1 (omega (arith, next)) h) (own_in a u) c.kinds)
         (all_mapped (λ (x : ℕ × Entry). IsOfWorker k x.1) (λ (x : ℕ × Entry). IsOfCrew k x.1) (λ x h. of_crew k x.1 (omega (arith, next)) h) (own_in b u) (recursion_from_All (λ (x : ℕ × Entry). IsOfWorker k x.1) (own_in b u) w.worked.kinds));
     ended = λ p e h claim. elim (own_either a b u p e h) [
-        | inl l ↦ (let r = c.ended p e l claim in (r.0, r.1, own_left a b u r.0 r.1 r.2, r.3))
-        | inr l ↦ (let r = w.worked.ended p e l claim in (r.0, r.1, own_right a b u r.0 r.1 r.2, r.3))
-      ];
+      | inl l ↦ (let r = c.ended p e l claim in (r.0, r.1, own_left a b u r.0 r.1 r.2, r.3))
+      | inr l ↦ (let r = w.worked.ended p e l claim in (r.0, r.1, own_right a b u r.0 r.1 r.2, r.3))
+    ];
     theirs = λ q place h. elim (own_either a b u q (GiveUp place) h) [
-        | inl l ↦ (let r = c.theirs q place l in (r.0, claim_left a b u r.0 place r.1))
-        | inr l ↦ (k, claim_right a b u k place (claim_of k (own_in b u) q place w.worked l))
-      ];
+      | inl l ↦ (let r = c.theirs q place l in (r.0, claim_left a b u r.0 place r.1))
+      | inr l ↦ (k, claim_right a b u k place (claim_of k (own_in b u) q place w.worked l))
+    ];
     few = λ worker q r place other h f g d. elim (own_either a b u q (GiveUp place) h) [
-        | inl l ↦ elim (own_either a b u r (GiveUp other) g) [
-          | inl m ↦ c.few worker q r place other l (of_others worker q place l f).0 m (of_others worker r other m d).0
-          | inr m ↦ absurd (omega (arith, next, (of_others worker q place l f).1, of_last worker r other m d))
-        ]
-        | inr l ↦ elim (own_either a b u r (GiveUp other) g) [
-          | inl m ↦ absurd (omega (arith, next, (of_others worker r other m d).1, of_last worker q place l f))
-          | inr m ↦ w.once q r place other l m
-        ]
-      ];
+      | inl l ↦ elim (own_either a b u r (GiveUp other) g) [
+        | inl m ↦ c.few worker q r place other l (of_others worker q place l f).0 m (of_others worker r other m d).0
+        | inr m ↦ absurd (omega (arith, next, (of_others worker q place l f).1, of_last worker r other m d))
+      ]
+      | inr l ↦ elim (own_either a b u r (GiveUp other) g) [
+        | inl m ↦ absurd (omega (arith, next, (of_others worker r other m d).1, of_last worker q place l f))
+        | inr m ↦ w.once q r place other l m
+      ]
+    ];
   }
 
 -- what worker k has added from a pass with no own entry, and where its pass was joined into another: its list, its places, what it had seen

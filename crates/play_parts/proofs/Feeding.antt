@@ -1,22 +1,21 @@
 -- What lane 0 has fed, one entry on.
-use Rattle.std.proofs.Common.{zero, suc, ◌≡◌, ℕ, ◌+◌, ◌≤◌, Bool, true, false, ◌&&◌, IsTrue, List, ◌⊎◌, [], ◌∷◌, ◌++◌, Option, Some, None, length, drop, refl, ap, ◌∙◌, sym, subst, append-nil, length-append, inl, inr, arith}
+use Rattle.std.proofs.Common.{zero, suc, ◌≡◌, ℕ, ◌+◌, ◌≤◌, IsTrue, List, ◌⊎◌, [], ◌∷◌, ◌++◌, Option, Some, None, length, drop, refl, ap, ◌∙◌, sym, subst, length-append, inl, inr, arith}
 use Rattle.std.specs.Prelude.{slice_get}
-use Rattle.std.specs.List.{sum_by, list_all, flat_map}
+use Rattle.std.specs.List.{sum_by}
 use Rattle.std.proofs.lemmas.List.{drop-drop}
 use Rattle.std.proofs.lemmas.List.Concat.{flat_map-append}
 use Rattle.std.proofs.lemmas.List.Sums.{sum_by-cons, sum_by-append}
 use Rattle.eme_types.specs.declared.media.Fragment.{Fragment}
 use Rattle.eme_types.specs.declared.media.Media.{Media}
 use Rattle.eme_types.specs.declared.entry.Entry.{Entry}
-use Rattle.eme_types.specs.declared.entry.Entry.TheVariants.{Call, Job, Task, Tick, Feed, Claim, Deliver, GiveUp, Publish, PassClear, WaitForKey, Settle}
+use Rattle.eme_types.specs.declared.entry.Entry.TheVariants.{Feed}
 use Rattle.eme_types.specs.Fed.{IsFed, are_known, are_well_formed, fragment_samples, fragment_bytes}
 use Rattle.eme_types.specs.declared.limits.TheConstants.{MAX_SAMPLES, MAX_SAMPLE_BYTES}
 use Rattle.cdm_state.specs.History.{MayFeedNext, samples_in, bytes_in, fed_samples, fed_bytes, fed_samples_of, fed_bytes_of}
 use Rattle.output_order.specs.Lane.{feeds_in, fed_by}
-use Rattle.output_order.specs.Complete.{FeedsBegun}
 use Rattle.output_order.proofs.Sizes.{some_same}
 use Rattle.play_parts.specs.Parts.{AreFed}
-use Rattle.play_parts.proofs.Reading.{both_true, true_at}
+use Rattle.play_parts.proofs.Reading.{true_at}
 
 pub fed_none : (fragments : List Fragment) → AreFed fragments fragments []
 fed_none fragments = record { each = λ k given at. absurd cc; left_ = refl }
@@ -52,9 +51,9 @@ fed_on fragments left rest es more next behind fed =
     let long : length (feeds_in (es ++ more)) ≡ many + few = ap length feeds ∙ length-append (feeds_in es) (feeds_in more) in
     record {
       each = λ k x at. elim (append_cases (feeds_in es) (feeds_in more) k x (subst (λ (xs : List (Option Fragment)). slice_get xs k ≡ Some x) feeds at)) [
-          | inl before ↦ fed.each k x before
-          | inr end ↦ next end.0 x end.2 ∙ (next_is fragments left es end.0 fed ∙ ap (slice_get fragments) (sym end.1))
-        ];
+        | inl before ↦ fed.each k x before
+        | inr end ↦ next end.0 x end.2 ∙ (next_is fragments left es end.0 fed ∙ ap (slice_get fragments) (sym end.1))
+      ];
       left_ = ap (λ (n : ℕ). drop n fragments) long ∙ (sym (drop-drop few many fragments) ∙ (ap (drop few) fed.left_ ∙ behind));
     }
 
@@ -71,9 +70,9 @@ only_first x (suc k) y at = absurd cc
 pub fed_more : (fragments left : List Fragment) (es more : List Entry) → feeds_in more ≡ slice_get left 0 ∷ [] → AreFed fragments left es → AreFed fragments (drop 1 left) (es ++ more)
 fed_more fragments left es more next fed =
     fed_on fragments left (drop 1 left) es more
-      (λ k given at. (let one = only_first (slice_get left 0) k given (subst (λ (xs : List (Option Fragment)). slice_get xs k ≡ Some given) next at) in one.1 ∙ ap (slice_get left) (sym one.0)))
-      (ap (λ (xs : List (Option Fragment)). drop (length xs) left) next)
-      fed
+    (λ k given at. (let one = only_first (slice_get left 0) k given (subst (λ (xs : List (Option Fragment)). slice_get xs k ≡ Some given) next at) in one.1 ∙ ap (slice_get left) (sym one.0)))
+    (ap (λ (xs : List (Option Fragment)). drop (length xs) left) next)
+    fed
 
 -- ---- totals
 

@@ -1,6 +1,5 @@
 -- The lanes, one after the other.
-use Rattle.std.proofs.Common.{◌≡◌, ◌≢◌, ℕ, ◌+◌, ◌<◌, ◌≤◌, ◌⊎◌, Bool, true, List, [], ◌∷◌, ◌++◌, Contains, if◌then◌else◌, refl, ap, sym, subst, ◌∙◌, arith, inl, inr, eq-eqb, ne_eqb}
-use Rattle.std.specs.Prelude.{◌==◌}
+use Rattle.std.proofs.Common.{◌≡◌, ◌≢◌, ℕ, ◌+◌, ◌<◌, Bool, true, List, [], ◌∷◌, ◌++◌, Contains, if◌then◌else◌, refl, ap, sym, subst, ◌∙◌, arith, inl, inr, eq-eqb, ne_eqb}
 use Rattle.std.specs.List.{flat_map, AllByRecursion}
 use Rattle.std.proofs.lemmas.Bool.{eqb-true}
 use Rattle.std.proofs.lemmas.List.Elements.{filter_passes, recursion_from_All}
@@ -8,17 +7,17 @@ use mathlib.Core.List.{IsPrefix}
 use native.Mathlib.Decide.{ℕ_discrete}
 use Rattle.eme_types.specs.declared.media.Fragment.{Fragment}
 use Rattle.eme_types.specs.declared.entry.Entry.{Entry}
-use Rattle.eme_types.specs.declared.entry.Entry.TheVariants.{Call, Job, Task, Tick, Feed, Claim, Deliver, GiveUp, Publish, PassClear, WaitForKey, Settle}
+use Rattle.eme_types.specs.declared.entry.Entry.TheVariants.{Call, Feed, Claim, GiveUp}
 use Rattle.eme_types.specs.declared.limits.TheConstants.{MAX_LANES}
 use Rattle.script_lang.specs.declared.script.Line.{Line}
-use Rattle.output_order.specs.Lane.{lines_in, lane, is_of_lane, asked, asked_in, feeds_in, fed_by}
+use Rattle.output_order.specs.Lane.{lines_in, lane, is_of_lane, asked, fed_by}
 use Rattle.output_order.specs.Complete.{IsOfLine}
 use Rattle.decrypt_workers.specs.Desks.{Placed}
 use Rattle.decrypt_workers.specs.Workers.{IsAnyClaim}
 use Rattle.shared_cdm.specs.Own.{own_in, AreSeen, entries}
 use Rattle.shared_cdm.proofs.Own.{own_later}
 use Rattle.play_parts.specs.Asks.{IsOfLanes}
-use Rattle.play_parts.specs.Parts.{AreEnded, IsOfLane0, IsCallOf, HasLed, HasCalled, LanesIn}
+use Rattle.play_parts.specs.Parts.{IsOfLane0, IsCallOf, HasLed, HasCalled, LanesIn}
 use Rattle.play_parts.proofs.Reading.{all_mapped, all_append, all_left, all_right, all_contains, all_placed, line_at, lane_flat}
 use Rattle.play_parts.proofs.Feeding.{fed_same}
 use Rattle.play_parts.proofs.Joined.{all_joined, read_first, read_second, own_left, own_either}
@@ -63,9 +62,9 @@ lanes_first script fragments left news led = record {
 pub lanes_empty : (script : List Line) (fragments left : List Fragment) (k : ℕ) (news : Placed) → lane script (k + 1) ≡ [] → LanesIn script fragments left k news → LanesIn script fragments left (k + 1) news
 lanes_empty script fragments left k news none lanes = record {
   done = λ i le. elim (ℕ_discrete i (k + 1)) [
-      | yes same ↦ lanes.none i (omega (arith, same)) ∙ sym (ap (lane script) same ∙ none)
-      | no other ↦ lanes.done i (omega (arith, le, other))
-    ];
+    | yes same ↦ lanes.none i (omega (arith, same)) ∙ sym (ap (lane script) same ∙ none)
+    | no other ↦ lanes.done i (omega (arith, le, other))
+  ];
   none = λ i lt. lanes.none i (omega (arith, lt));
   above = lanes.above;
   fed = lanes.fed;
@@ -122,17 +121,17 @@ lanes_more script fragments left k a b own s t u few below_a below_b p q is f g 
     let both : List Entry = entries (own_in (a ++ b) u) in
     let made : LanesIn script fragments left (k + 1) (own_in (a ++ b) u) = record {
       done = λ i le. elim (ℕ_discrete i (k + 1)) [
-          | yes same ↦ lane_flat i both ∙ (read_second (line_at i) a b s t u below_a below_b p q (none_of_lane i first (f.none i (omega (arith, same)))) ∙ (sym (lane_flat i more) ∙ subst (λ (j : ℕ). lane (lines_in more) j ≡ lane script j) (sym same) (lane_done script (k + 1) more g.lines_)))
-          | no other ↦ lane_flat i both ∙ (read_first (line_at i) a b s t u below_a below_b p q (none_of_lane i more (lane_other script (k + 1) i more (λ e. other (sym e)) g.lines_)) ∙ (sym (lane_flat i first) ∙ f.done i (omega (arith, le, other))))
-        ];
+        | yes same ↦ lane_flat i both ∙ (read_second (line_at i) a b s t u below_a below_b p q (none_of_lane i first (f.none i (omega (arith, same)))) ∙ (sym (lane_flat i more) ∙ subst (λ (j : ℕ). lane (lines_in more) j ≡ lane script j) (sym same) (lane_done script (k + 1) more g.lines_)))
+        | no other ↦ lane_flat i both ∙ (read_first (line_at i) a b s t u below_a below_b p q (none_of_lane i more (lane_other script (k + 1) i more (λ e. other (sym e)) g.lines_)) ∙ (sym (lane_flat i first) ∙ f.done i (omega (arith, le, other))))
+      ];
       none = λ i lt. lane_flat i both ∙ (read_first (line_at i) a b s t u below_a below_b p q (none_of_lane i more (lane_other script (k + 1) i more (λ e. omega (arith, e, lt)) g.lines_)) ∙ (sym (lane_flat i first) ∙ f.none i (omega (arith, lt))));
       above = join_flat IsOfLine asked both (all_joined (λ (e : Entry). AllByRecursion IsOfLine (asked e)) a b s t u below_a below_b p q (split_flat IsOfLine asked first f.above) (split_flat IsOfLine asked more g.above));
       fed = fed_same fragments left first both (read_first fed_by a b s t u below_a below_b p q (all_mapped (IsCallOf (k + 1)) (λ (e : Entry). fed_by e ≡ []) (call_feeds (k + 1)) more g.kinds)) f.fed;
       kinds = all_joined IsOfLanes a b s t u below_a below_b p q f.kinds (all_mapped (IsCallOf (k + 1)) IsOfLanes (call_of_lanes (k + 1) few) more g.kinds);
       ended = λ place e h c. elim (own_either a b u place e h) [
-          | inl mine ↦ (let r = f.ended place e (subst (λ (xs : Placed). Contains xs (place, e)) (own_later a s u below_a p) mine) c in
-              (r.0, r.1, own_left a b u r.0 r.1 (subst (λ (xs : Placed). Contains xs (r.0, r.1)) (sym (own_later a s u below_a p)) r.2), r.3))
-          | inr theirs ↦ absurd (call_no_claim (k + 1) e (all_contains (λ (x : ℕ × Entry). IsCallOf (k + 1) x.1) (own_in b t) (place, e) (all_placed (IsCallOf (k + 1)) (own_in b t) g.kinds) (subst (λ (xs : Placed). Contains xs (place, e)) (own_later b t u below_b q) theirs)) c)
-        ];
+        | inl mine ↦ (let r = f.ended place e (subst (λ (xs : Placed). Contains xs (place, e)) (own_later a s u below_a p) mine) c in
+            (r.0, r.1, own_left a b u r.0 r.1 (subst (λ (xs : Placed). Contains xs (r.0, r.1)) (sym (own_later a s u below_a p)) r.2), r.3))
+        | inr theirs ↦ absurd (call_no_claim (k + 1) e (all_contains (λ (x : ℕ × Entry). IsCallOf (k + 1) x.1) (own_in b t) (place, e) (all_placed (IsCallOf (k + 1)) (own_in b t) g.kinds) (subst (λ (xs : Placed). Contains xs (place, e)) (own_later b t u below_b q) theirs)) c)
+      ];
     } in
     subst (λ (o : List ℕ). LanesIn script fragments left (k + 1) (own_in o u)) (sym is) made

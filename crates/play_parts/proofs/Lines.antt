@@ -1,5 +1,5 @@
 -- A lane, one line on.
-use Rattle.std.proofs.Common.{zero, suc, ◌≡◌, ◌≢◌, ℕ, ◌+◌, ◌<◌, ◌≤◌, List, [], ◌∷◌, ◌++◌, Contains, Option, Some, take, drop, refl, ap, ◌∙◌, sym, subst, append-nil, arith, ⊎_elim}
+use Rattle.std.proofs.Common.{◌≡◌, ◌≢◌, ℕ, ◌+◌, ◌≤◌, List, [], ◌∷◌, ◌++◌, Contains, Option, Some, take, refl, ap, ◌∙◌, sym, subst, append-nil, arith, ⊎_elim}
 use Rattle.std.specs.Prelude.{slice_get}
 use Rattle.std.specs.List.{flat_map, AllByRecursion}
 use Rattle.std.proofs.lemmas.List.Elements.{Contains-append_cases, Contains-push_cases}
@@ -21,7 +21,7 @@ use Rattle.play_parts.specs.Parts.{AreSteps, AreEnded, AreFed, IsOfLane0, IsCall
 use Rattle.play_parts.proofs.Reading.{all_mapped, all_append, all_entries, all_contains, entries_append, nothing_in, flat_none, flat_both}
 use Rattle.play_parts.proofs.Steps.{ended_none, ended_both, ended_one, step_line, step_asked, step_feeds, step_of_lane_0}
 use Rattle.play_parts.proofs.Feeding.{fed_none, fed_kept, fed_more}
-use Rattle.play_parts.proofs.Scripts.{number_above_0, asks_beside, moment_rises, moment_more, lane_here, lane_beside, line_as, line_above, line_back, asked_back, above_back, of_lane_0_back, no_claim_back, tick_back}
+use Rattle.play_parts.proofs.Scripts.{number_above_0, lane_fits_at, asks_beside, moment_rises, moment_more, lane_here, lane_beside, line_as, line_above, line_back, asked_back, above_back, of_lane_0_back, no_claim_back, tick_back}
 
 -- ---- steps, and then an entry
 
@@ -68,9 +68,9 @@ ticks_more : (last moment number lane : ℕ) (action : Action) (given : Option F
 ticks_more last moment number lane action given news steps place is le are none q line m h = ⊎_elim
     (λ (old : Contains news (q, Tick line m)). let below : m ≤ last = none q line m old in omega (arith, below, le))
     (λ (new : Contains (steps ++ (place, entry_for number lane action given) ∷ []) (q, Tick line m)). ⊎_elim
-        (λ (step : Contains steps (q, Tick line m)). absurd (all_contains (λ (x : ℕ × Entry). IsStep x.1) steps (q, Tick line m) are.kinds step))
-        (λ (last_ : (place, entry_for number lane action given) ≡ (q, Tick line m)). let below : m ≤ moment_after last action = tick_back last number lane action given line m (ap (λ (x : ℕ × Entry). x.1) last_) in omega (arith, below, is))
-        (Contains-push_cases steps (place, entry_for number lane action given) (q, Tick line m) new))
+    (λ (step : Contains steps (q, Tick line m)). absurd (all_contains (λ (x : ℕ × Entry). IsStep x.1) steps (q, Tick line m) are.kinds step))
+    (λ (last_ : (place, entry_for number lane action given) ≡ (q, Tick line m)). let below : m ≤ moment_after last action = tick_back last number lane action given line m (ap (λ (x : ℕ × Entry). x.1) last_) in omega (arith, below, is))
+    (Contains-push_cases steps (place, entry_for number lane action given) (q, Tick line m) new))
     (Contains-append_cases news (steps ++ (place, entry_for number lane action given) ∷ []) (q, Tick line m) h)
 
 -- steps, and then the entry of the line
@@ -84,7 +84,7 @@ led_line script n line fragments left news steps place s at is are led =
     let moment : moment_of (take (n + 1) script) ≡ moment_after (moment_of (take n script)) line.action = moment_more script n line at in
     let rises : moment_of (take n script) ≤ moment_after (moment_of (take n script)) line.action = moment_rises script n line s at in
     record {
-      lines_ = flat_both line_of news more ∙ (ap (λ (xs : List Line). lines_in (entries news) ++ xs) (stepped_flat line_of steps place e step_line are ∙ line_back line.number line.lane line.action given above is) ∙ (ap (λ (xs : List Line). xs ++ line ∷ []) led.lines_ ∙ sym (lane_here script n 0 line at is)));
+      lines_ = flat_both line_of news more ∙ (ap (λ (xs : List Line). lines_in (entries news) ++ xs) (stepped_flat line_of steps place e step_line are ∙ line_back line.number line.lane line.action given above (lane_fits_at script n line s at)) ∙ (ap (λ (xs : List Line). xs ++ line ∷ []) led.lines_ ∙ sym (lane_here script n 0 line at is)));
       above = subst (AllByRecursion IsOfLine) (sym (flat_both asked news more ∙ ap (λ (xs : List Entry). asked_in (entries news) ++ xs) (stepped_flat asked steps place e step_asked are ∙ asked_back line.number line.lane line.action given))) (all_append IsOfLine (asked_in (entries news)) (e ∷ []) led.above (above_back line.number line.lane line.action given above, tt));
       fed = subst (AreFed fragments (left_by left line.action)) (sym whole) (fed_by_action fragments left (entries news) (entries more) line.number line.lane line.action (stepped_flat fed_by steps place e step_feeds are) led.fed);
       kinds = subst (AllByRecursion IsOfLane0) (sym whole) (all_append IsOfLane0 (entries news) (entries more) led.kinds (stepped_kinds steps place e are (of_lane_0_back line.number line.lane line.action given is)));

@@ -1,5 +1,5 @@
 -- The line at a place of a script, and its entry.
-use Rattle.std.proofs.Common.{zero, suc, ◌≡◌, ◌≢◌, ℕ, ◌+◌, ◌<◌, ◌≤◌, Bool, true, false, IsTrue, List, [], ◌∷◌, ◌++◌, Option, Some, take, if◌then◌else◌, refl, ap, ◌∙◌, sym, subst, arith, eq-eqb, ne_eqb}
+use Rattle.std.proofs.Common.{zero, suc, ◌≡◌, ◌≢◌, ℕ, ◌+◌, ◌<◌, ◌≤◌, Bool, IsTrue, List, [], ◌∷◌, ◌++◌, Option, Some, take, if◌then◌else◌, refl, ap, ◌∙◌, sym, subst, arith, eq-eqb, ne_eqb}
 use Rattle.std.specs.Prelude.{◌==◌, nat_lt, nat_le, slice_get}
 use Rattle.std.specs.List.{fold}
 use Rattle.std.proofs.lemmas.Bool.{leb-true, ltb-true, eqb-true}
@@ -7,8 +7,7 @@ use Rattle.std.proofs.lemmas.List.Elements.{filter-append}
 use Rattle.std.proofs.lemmas.List.Sums.{fold-append}
 use Rattle.eme_types.specs.declared.media.Fragment.{Fragment}
 use Rattle.eme_types.specs.declared.call.AppCall.{AppCall}
-use Rattle.eme_types.specs.declared.entry.Entry.{Entry}
-use Rattle.eme_types.specs.declared.entry.Entry.TheVariants.{Call, Tick, Feed, Settle}
+use Rattle.eme_types.specs.declared.entry.Entry.TheVariants.{Tick}
 use Rattle.eme_types.specs.declared.limits.TheConstants.{MAX_MOMENT}
 use Rattle.script_lang.specs.declared.script.Line.{Line}
 use Rattle.script_lang.specs.declared.script.Action.{Action}
@@ -37,6 +36,9 @@ numbers_above last (x ∷ more) (suc n) line rise at =
 pub number_above_0 : (script : List Line) (n : ℕ) (line : Line) → IsScript script → slice_get script n ≡ Some line → line.number ≢ 0
 number_above_0 script n line s at none = let above : 0 < line.number = numbers_above 0 script n line s.numbers at in absurd (omega (arith, above, none))
 
+pub lane_fits_at : (script : List Line) (n : ℕ) (line : Line) → IsScript script → slice_get script n ≡ Some line → IsTrue (lane_fits line.lane line.action)
+lane_fits_at script n line s at = true_at (λ (l : Line). lane_fits l.lane l.action) script n line s.lanes at
+
 asks_as : (number : ℕ) (action : Action) → IsTrue (lane_fits number action) → number ≢ 0 → (call : AppCall) × (action ≡ Ask call)
 asks_as number (Ask call) fits other = (call, refl)
 asks_as number FeedAction fits other = absurd (other (eqb-true number 0 fits))
@@ -45,7 +47,7 @@ asks_as number SettleAction fits other = absurd (other (eqb-true number 0 fits))
 
 -- a line of a lane other than 0 asks for a call
 pub asks_beside : (script : List Line) (n : ℕ) (line : Line) → IsScript script → slice_get script n ≡ Some line → line.lane ≢ 0 → (call : AppCall) × (line.action ≡ Ask call)
-asks_beside script n line s at other = asks_as line.lane line.action (true_at (λ (l : Line). lane_fits l.lane l.action) script n line s.lanes at) other
+asks_beside script n line s at other = asks_as line.lane line.action (lane_fits_at script n line s at) other
 
 moments_at : (last : ℕ) (script : List Line) (n : ℕ) (line : Line) → IsTrue (moments_rise last script) → slice_get script n ≡ Some line → IsTrue (moment_fits (fold moment_by last (take n script)) line.action)
 moments_at last [] n line rise at = absurd cc
@@ -53,6 +55,9 @@ moments_at last (x ∷ more) zero line rise at =
     subst (λ (l : Line). IsTrue (moment_fits last l.action)) (some_same at) (both_true (moment_fits last x.action) (moments_rise (moment_after last x.action) more) rise).0
 moments_at last (x ∷ more) (suc n) line rise at =
     moments_at (moment_after last x.action) more n line (both_true (moment_fits last x.action) (moments_rise (moment_after last x.action) more) rise).1 at
+
+pub moment_fits_at : (script : List Line) (n : ℕ) (line : Line) → IsScript script → slice_get script n ≡ Some line → IsTrue (moment_fits (moment_of (take n script)) line.action)
+moment_fits_at script n line s at = moments_at 0 script n line s.moments at
 
 rises_by : (last : ℕ) (action : Action) → IsTrue (moment_fits last action) → last ≤ moment_after last action
 rises_by last (Ask call) fits = omega arith
@@ -62,7 +67,7 @@ rises_by last SettleAction fits = omega arith
 
 -- the moment does not go back
 pub moment_rises : (script : List Line) (n : ℕ) (line : Line) → IsScript script → slice_get script n ≡ Some line → moment_of (take n script) ≤ moment_after (moment_of (take n script)) line.action
-moment_rises script n line s at = rises_by (moment_of (take n script)) line.action (moments_at 0 script n line s.moments at)
+moment_rises script n line s at = rises_by (moment_of (take n script)) line.action (moment_fits_at script n line s at)
 
 pub moment_more : (script : List Line) (n : ℕ) (line : Line) → slice_get script n ≡ Some line → moment_of (take (n + 1) script) ≡ moment_after (moment_of (take n script)) line.action
 moment_more script n line at = ap moment_of (taken_more script n line at) ∙ fold-append moment_by 0 (take n script) (line ∷ [])
@@ -87,12 +92,15 @@ line_as number lane action = record { number = number; lane = lane; action = act
 pub line_above : (number lane : ℕ) (action : Action) → number ≢ 0 → line_with number lane action ≡ line_as number lane action ∷ []
 line_above number lane action above = ap (λ (b : Bool). if b then [] else line_as number lane action ∷ []) (ne_eqb number 0 above)
 
+at_lane_0 : (number lane : ℕ) (action : Action) → number ≢ 0 → IsTrue (lane == 0) → line_with number 0 action ≡ line_as number lane action ∷ []
+at_lane_0 number lane action above is = line_above number 0 action above ∙ ap (λ (i : ℕ). line_as number i action ∷ []) (sym (eqb-true lane 0 is))
+
 -- it stands for that line
-pub line_back : (number lane : ℕ) (action : Action) (given : Option Fragment) → number ≢ 0 → lane ≡ 0 → line_of (entry_for number lane action given) ≡ line_as number lane action ∷ []
-line_back number lane (Ask call) given above is = line_above number lane (Ask call) above
-line_back number lane FeedAction given above is = line_above number 0 FeedAction above ∙ ap (λ (i : ℕ). line_as number i FeedAction ∷ []) (sym is)
-line_back number lane (Clock moment) given above is = line_above number 0 (Clock moment) above ∙ ap (λ (i : ℕ). line_as number i (Clock moment) ∷ []) (sym is)
-line_back number lane SettleAction given above is = line_above number 0 SettleAction above ∙ ap (λ (i : ℕ). line_as number i SettleAction ∷ []) (sym is)
+pub line_back : (number lane : ℕ) (action : Action) (given : Option Fragment) → number ≢ 0 → IsTrue (lane_fits lane action) → line_of (entry_for number lane action given) ≡ line_as number lane action ∷ []
+line_back number lane (Ask call) given above fits = line_above number lane (Ask call) above
+line_back number lane FeedAction given above fits = at_lane_0 number lane FeedAction above fits
+line_back number lane (Clock moment) given above fits = at_lane_0 number lane (Clock moment) above fits
+line_back number lane SettleAction given above fits = at_lane_0 number lane SettleAction above fits
 
 pub asked_back : (number lane : ℕ) (action : Action) (given : Option Fragment) → asked (entry_for number lane action given) ≡ entry_for number lane action given ∷ []
 asked_back number lane (Ask call) given = refl

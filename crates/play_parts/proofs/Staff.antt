@@ -1,15 +1,14 @@
 -- A play that is over was staffed, and no claim is open.
-use Rattle.std.proofs.Common.{zero, suc, ◌≡◌, ℕ, ◌+◌, ◌-◌, ◌≤◌, Bool, true, false, List, [], ◌∷◌, Contains, Option, Some, None, count_by, if◌then◌else◌, refl, ap, sym, subst, ◌∙◌, arith, inl, inr}
-use Rattle.std.specs.Prelude.{slice_get, ◌==◌}
+use Rattle.std.proofs.Common.{suc, ◌≡◌, ℕ, ◌+◌, ◌-◌, ◌≤◌, Bool, true, false, List, [], ◌∷◌, Contains, Some, count_by, if◌then◌else◌, refl, ap, sym, subst, ◌∙◌, arith, inl, inr}
+use Rattle.std.specs.Prelude.{slice_get}
 use Rattle.std.proofs.lemmas.Bool.{eqb-true}
 use Rattle.std.proofs.lemmas.List.Sums.{sum_by-cons}
 use Rattle.eme_types.specs.declared.media.Media.{Media}
 use Rattle.eme_types.specs.declared.entry.Entry.{Entry}
-use Rattle.eme_types.specs.declared.entry.Entry.TheVariants.{Call, Job, Task, Tick, Feed, Claim, Deliver, GiveUp, Publish, PassClear, WaitForKey, Settle}
+use Rattle.eme_types.specs.declared.entry.Entry.TheVariants.{Claim, GiveUp}
 use Rattle.script_lang.specs.declared.script.Line.{Line}
-use Rattle.cdm_state.specs.History.{Undelivered}
 use Rattle.cdm_state.specs.Progress.{NoneWaits}
-use Rattle.output_order.specs.Staffed.{NamesWorker, claims_as, gives_up, times_given_up, IsStaffed}
+use Rattle.output_order.specs.Staffed.{NamesWorker, claims_as, gives_up, IsStaffed}
 use Rattle.shared_cdm.specs.Own.{own_in, entries}
 use Rattle.shared_cdm.proofs.Held.{own_stands, unended_now}
 use Rattle.play_parts.specs.Asks.{IsOfLanes}

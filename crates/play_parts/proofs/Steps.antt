@@ -1,12 +1,11 @@
 -- Steps of lane 0, put together.
-use Rattle.std.proofs.Common.{◌≡◌, ℕ, List, ◌⊎◌, [], ◌∷◌, ◌++◌, Contains, refl, ap, sym, subst, ⊎_elim}
-use Rattle.std.specs.List.{AllByRecursion}
+use Rattle.std.proofs.Common.{◌≡◌, ℕ, List, [], ◌∷◌, ◌++◌, Contains, refl, ap, sym, subst, ⊎_elim}
 use Rattle.std.proofs.lemmas.List.Elements.{Contains-append_left, Contains-append_right, Contains-append_cases, Contains-push, Contains-push_cases}
 use Rattle.eme_types.specs.declared.entry.Entry.{Entry}
-use Rattle.eme_types.specs.declared.entry.Entry.TheVariants.{Call, Job, Task, Tick, Feed, Claim, Deliver, GiveUp, Publish, PassClear, WaitForKey, Settle}
+use Rattle.eme_types.specs.declared.entry.Entry.TheVariants.{Call, Tick, Feed, Claim, Deliver, GiveUp, Settle}
 use Rattle.eme_types.specs.declared.entry.Verdict.{Verdict}
 use Rattle.output_order.specs.Lane.{line_of, asked, fed_by}
-use Rattle.decrypt_workers.specs.Desks.{Placed, EndsClaim}
+use Rattle.decrypt_workers.specs.Desks.{Placed}
 use Rattle.decrypt_workers.specs.Workers.{IsAnyClaim}
 use Rattle.play_parts.specs.Asks.{IsStep}
 use Rattle.play_parts.specs.Parts.{AreEnded, AreSteps, IsOfLane0}

@@ -2,14 +2,14 @@
 use Rattle.std.proofs.Common.{zero, suc, ◌≡◌, ℕ, ◌+◌, ◌<◌, ◌≤◌, ◌⊎◌, List, [], ◌∷◌, ◌++◌, Contains, Some, length, refl, ap, sym, subst, ◌∙◌, arith, inl, inr}
 use Rattle.std.specs.Prelude.{slice_get}
 use Rattle.std.specs.List.{flat_map, AllByRecursion}
-use mathlib.Core.List.{IsPrefix}
-use native.Mathlib.Decide.{ℕ_discrete}
+use Rattle.std.proofs.lemmas.List.{length-map}
+use Rattle.std.proofs.lemmas.Option.{slice_get_within}
 use Rattle.eme_types.specs.declared.media.Media.{Media}
 use Rattle.eme_types.specs.declared.entry.Entry.{Entry}
 use Rattle.script_lang.specs.declared.script.Line.{Line}
 use Rattle.book_lock.specs.Places.{times}
 use Rattle.decrypt_workers.specs.Desks.{Placed}
-use Rattle.shared_cdm.specs.Own.{own_from, own_in, AreSeen, entries}
+use Rattle.shared_cdm.specs.Own.{own_from, own_in, entries}
 use Rattle.shared_cdm.proofs.Own.{own_later, zero_or}
 use Rattle.shared_cdm.proofs.Parts.{own_here, own_not_here, own_flat}
 use Rattle.shared_cdm.proofs.Held.{own_contains, own_stands}
@@ -17,7 +17,7 @@ use Rattle.play_parts.specs.Asks.{IsOfLanes}
 use Rattle.play_parts.specs.Parts.{AreEnded, IsOfLane0}
 use Rattle.play_parts.specs.Crew.{IsOfCrew}
 use Rattle.play_parts.specs.Whole.{TeamOver}
-use Rattle.play_parts.proofs.Reading.{all_mapped, all_append, all_placed, all_contains, entries_append, flat_both}
+use Rattle.play_parts.proofs.Reading.{all_mapped, all_append, all_placed, all_contains, flat_both}
 use Rattle.play_parts.proofs.Steps.{ended_both}
 use Rattle.play_parts.proofs.Lanes.{of_lanes}
 use Rattle.play_parts.proofs.Joined.{own_either}
@@ -46,19 +46,10 @@ all_owned place own (e ∷ es) n all lt =
     at zero lt some more = subst (λ (p : ℕ). 0 < times p own) (let same : place ≡ place + 0 = omega arith in same) some
     at (suc m) lt some more = subst (λ (p : ℕ). 0 < times p own) (let same : place + 1 + m ≡ place + suc m = omega arith in same) (more m (omega (arith, lt)))
 
-within : (xs : List Entry) (n : ℕ) (e : Entry) → slice_get xs n ≡ Some e → n < length xs
-within [] n e at = absurd cc
-within (x ∷ xs) zero e at = omega arith
-within (x ∷ xs) (suc n) e at = let lt : n < length xs = within xs n e at in omega (arith, lt)
-
-length_entries : (news : Placed) → length (entries news) ≡ length news
-length_entries [] = refl
-length_entries (x ∷ news) = let rest : length (entries news) ≡ length news = length_entries news in omega (arith, rest)
-
 own_entry : (own : List ℕ) (h : List Entry) (n : ℕ) (e : Entry) → entries (own_in own h) ≡ h → slice_get h n ≡ Some e → Contains (own_in own h) (1 + n, e)
 own_entry own h n e whole at =
-    let same : length h ≡ length (own_in own h) = sym (ap length whole) ∙ length_entries (own_in own h) in
-    own_contains 1 own h n e at (all_owned 1 own h n (omega (arith, same)) (within h n e at))
+    let same : length h ≡ length (own_in own h) = sym (ap length whole) ∙ length-map (own_in own h) (λ (x : ℕ × Entry). x.1) in
+    own_contains 1 own h n e at (all_owned 1 own h n (omega (arith, same)) (slice_get_within h n e at))
 
 all_from_at : (P : Entry → Type 0) (xs : List Entry) → ((n : ℕ) (e : Entry) → slice_get xs n ≡ Some e → P e) → AllByRecursion P xs
 all_from_at P [] each = tt

@@ -4,7 +4,7 @@ use Rattle.play_parts.proofs.law.the_parts_make_a_whole.Goals as goal
 
 pub returns : goal.returns
 returns c script media k own h legal team whole = record {
-  complete = is_complete (record { fronts = c.fronts_are_legal.ensures; quiet = c.what_is_at_rest_has_nothing_to_do.ensures.quiet; stays = c.what_is_at_rest_has_nothing_to_do.ensures.stays }) script media k own h legal team whole;
+  complete = is_complete script media k own h legal team whole;
   staffed = is_staffed script media k own h team whole;
   delivered = none_waits script media k own h team whole;
 }
