@@ -1,5 +1,5 @@
 -- What the calls of a desk add to the list that a pass has seen, and to its own entries.
-use Rattle.std.specs.Prelude.{◌≡◌, ℕ, ◌+◌, List, [], ◌∷◌, ◌++◌, length, IsTrue, Contains, Result, Ok, Err}
+use Rattle.std.specs.Prelude.{◌≡◌, ℕ, List, [], ◌∷◌, ◌++◌, length, IsTrue, Contains, Result, Ok, Err}
 use mathlib.Core.List.{IsPrefix}
 use Rattle.eme_types.specs.WellFormed.{is_well_formed}
 use Rattle.eme_types.specs.declared.entry.Entry.{Entry}
