@@ -1,9 +1,9 @@
-//! The player: `bittorgas play <script> <media> <prefix> [--workers <n>]`, `bittorgas inspect <media>`, `bittorgas request <type> <hex>` and
-//! `bittorgas demo <n>`.
+//! The player: `bittorgas play <script> <media> <prefix> [--workers <n>]` with n from 0 to 16 and 4 where it is not named,
+//! `bittorgas inspect <media>`, `bittorgas request <type> <hex>` and `bittorgas demo <n>`.
 #![tactic(auto)]
 
 use eme_edge::HostShelf;
-use player_cli::{Outcome, fault_text, run_player, status};
+use player_cli::{FreeGate, Outcome, fault_text, run_player, status};
 use std::env::args;
 use std::io;
 use std::io::{ErrorKind, Write};
@@ -21,7 +21,10 @@ fn words<R: Env + AllocGlobal>(rt: &R) -> io::Result<Vec<String>> {
 
 fn main(rt: HostRuntime) -> ExitCode {
     let outcome = match words(&rt) {
-        Ok(words) => run_player(rt.alloc(), words.as_slice(), &mut HostShelf::new(&rt)),
+        Ok(words) => {
+            let mut shelf = HostShelf::new(&rt);
+            run_player(&rt, rt.alloc(), words.as_slice(), &mut shelf, &FreeGate)
+        }
         Err(e) => {
             if e.kind() == ErrorKind::OutOfMemory {
                 Outcome::OutOfMemory

@@ -72,16 +72,16 @@ module _ (old mid last : ShelfState) (names : Names) (first : LeavesShelf old mi
   no_media script script_is second end says = (inr (record { script = script; read = script_is }, inl (end, refl, media_ends_before old mid last first end names.media says)), untouched_by_reading old last (both_leave old mid last first second))
 
   pub play_ends : (new : ShelfState) (script : List Line) (media : Media) (files : List FileText) (summary : List ℕ) (r : Result Unit ShelfFault)
-      → names.workers ≡ 0 → ScriptRead old names.script script → MediaRead mid names.media media → LeavesShelf mid last → ArePlayed script media names.prefix files summary
+      → ScriptRead old names.script script → MediaRead mid names.media media → LeavesShelf mid last → ArePlayed names.workers script media names.prefix files summary
       → OnOk r (IsWritten last new files summary) → OnErr r (IsStopped last new files summary) → WritesCause last new r → EndSays (writing_end r) (Play names) old new
-  play_ends new script media files summary r none script_is media_is second played ok err cause =
-      let workers = rw (← none) at played.is in
+  play_ends new script media files summary r script_is media_is second played ok err cause =
       let play : IsPlay old names media played.history = record {
         script = script;
         script_read = script_is;
         media_read = media_read_before old mid last first names.media media media_is;
-        is = workers;
+        is = played.is;
         alone = played.alone;
+        delivered = played.delivered;
       } in
       writing_says old last new (both_leave old mid last first second) files summary (Play names)
       (λ w. record { media = media; history = played.history; play = play; written = rw (played.files_are, played.summary_is) at w })

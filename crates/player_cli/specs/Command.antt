@@ -6,6 +6,7 @@ use Rattle.std.specs.Str.{bytes_eq}
 use Rattle.text_words.specs.Fronts.{is_nothing, behind}
 use Rattle.text_words.specs.Numbers.{number_up_to}
 use Rattle.text_words.specs.Hexadecimal.{hex_bytes}
+use Rattle.eme_types.specs.declared.limits.TheConstants.{MAX_WORKERS}
 use Rattle.player_cli.specs.declared.outcome.UsageKind.{UsageKind}
 use Rattle.player_cli.specs.declared.outcome.UsageKind.TheVariants.{MissingCommand, UnknownCommand, MissingWord, ExtraWord, BadNumber, BadKind, BadHex, EmptyName, NameClash}
 use Rattle.player_cli.specs.declared.outcome.UsageFault.{UsageFault}
@@ -44,24 +45,24 @@ bad_word place kind = record { place = place; kind = kind }
 -- ---- the command `play`
 
 -- no word stands behind the number of workers
-abbrev pub play_over : List (List ℕ) → Option UsageFault
-play_over [] = None
-play_over (word ∷ more) = Some (bad_word 7 ExtraWord)
+abbrev pub play_over : ℕ → List (List ℕ) → Result ℕ UsageFault
+play_over workers [] = Ok workers
+play_over workers (word ∷ more) = Err (bad_word 7 ExtraWord)
 
--- no worker can be started yet
-abbrev pub play_workers : List (List ℕ) → Option UsageFault
-play_workers [] = Some (bad_word 6 MissingWord)
-play_workers (word ∷ more) = if bytes_eq word (codes "0") then play_over more else Some (bad_word 6 BadNumber)
+-- the words behind the number of workers
+abbrev pub play_number : Option ℕ → List (List ℕ) → Result ℕ UsageFault
+play_number None more = Err (bad_word 6 BadNumber)
+play_number (Some workers) more = play_over workers more
 
--- what is wrong behind the prefix
-abbrev pub play_end : List (List ℕ) → Option UsageFault
-play_end [] = None
-play_end (word ∷ more) = if bytes_eq word (codes "--workers") then play_workers more else Some (bad_word 5 ExtraWord)
+-- the words behind `--workers`
+abbrev pub play_workers : List (List ℕ) → Result ℕ UsageFault
+play_workers [] = Err (bad_word 6 MissingWord)
+play_workers (word ∷ more) = play_number (number_up_to MAX_WORKERS word) more
 
--- the words ask for this where nothing is wrong behind them
-abbrev pub with_end : Asked → Option UsageFault → Result Asked UsageFault
-with_end asked None = Ok asked
-with_end asked (Some fault) = Err fault
+-- the number of workers that the words behind the prefix name; where no word stands there, it is 4
+abbrev pub play_end : List (List ℕ) → Result ℕ UsageFault
+play_end [] = Ok 4
+play_end (word ∷ more) = if bytes_eq word (codes "--workers") then play_workers more else Err (bad_word 5 ExtraWord)
 
 -- `log`, or digits alone
 abbrev pub is_ending : List ℕ → Bool
@@ -76,9 +77,14 @@ is_some_ending (Some text) = is_ending text
 abbrev pub clashes : List ℕ → List ℕ → Bool
 clashes prefix name = is_some_ending (option_and_then (behind (codes ".")) (behind prefix name))
 
--- the names of a play without workers
-abbrev pub names_with : List ℕ → List ℕ → List ℕ → Names
-names_with script media prefix = record { script = script; media = media; prefix = prefix; workers = 0 }
+-- the names of a play with this number of workers
+abbrev pub names_with : List ℕ → List ℕ → List ℕ → ℕ → Names
+names_with script media prefix workers = record { script = script; media = media; prefix = prefix; workers = workers }
+
+-- the words ask for this play where its number of workers is read
+abbrev pub play_with : List ℕ → List ℕ → List ℕ → Result ℕ UsageFault → Result Asked UsageFault
+play_with script media prefix (Ok workers) = Ok (Play (names_with script media prefix workers))
+play_with script media prefix (Err fault) = Err fault
 
 -- the words from the prefix on
 abbrev pub prefix_words : List ℕ → List ℕ → List (List ℕ) → Result Asked UsageFault
@@ -87,7 +93,7 @@ prefix_words script media (prefix ∷ more) =
     if is_nothing prefix then Err (bad_word 4 EmptyName)
     else if clashes prefix script then Err (bad_word 4 NameClash)
     else if clashes prefix media then Err (bad_word 4 NameClash)
-    else with_end (Play (names_with script media prefix)) (play_end more)
+    else play_with script media prefix (play_end more)
 
 -- the words from the name of the media file on
 abbrev pub media_words : List ℕ → List (List ℕ) → Result Asked UsageFault

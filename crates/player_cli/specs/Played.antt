@@ -4,12 +4,13 @@ use Rattle.eme_types.specs.declared.entry.Entry.{Entry}
 use Rattle.eme_types.specs.declared.media.Media.{Media}
 use Rattle.eme_edge.specs.Shelf.{ShelfState}
 use Rattle.cdm_state.specs.History.{IsLegal}
+use Rattle.cdm_state.specs.Progress.{NoneWaits}
 use Rattle.cdm_state.specs.Settlements.{calls_in, settlements}
 use Rattle.script_lang.specs.declared.script.Line.{Line}
 use Rattle.output_order.specs.Complete.{IsComplete}
 use Rattle.output_order.specs.Staffed.{IsStaffed}
 use Rattle.output_order.specs.Summary.{summary_of}
-use Rattle.player_core.specs.Alone.{IsAlone}
+use Rattle.player_core.specs.Alone.{IsAlone, IsOfOneLane}
 use Rattle.player_cli.specs.Command.{Names}
 use Rattle.player_cli.specs.Inputs.{Input, ScriptFile, MediaFile, ScriptRead, MediaRead}
 use Rattle.player_cli.specs.FileText.{FileText}
@@ -32,23 +33,29 @@ pub record IsHistory (workers : ℕ) (script : List Line) (media : Media) (histo
   pub staffed : IsStaffed workers history
   pub settled : SettlesEach media.tracks history
 
--- these are the files and the summary of a history of the play of this script and this media with no worker
-pub record ArePlayed (script : List Line) (media : Media) (prefix : List ℕ) (files : List FileText) (summary : List ℕ) : Type 0 where
+-- with no worker, the history of a script of lane 0 alone is that of one thread
+abbrev pub AloneWithout : ℕ → List Line → Media → List Entry → Type 0
+AloneWithout workers script media history = workers ≡ 0 → IsOfOneLane script → IsAlone script media history
+
+-- these are the files and the summary of a history of the play of this script and this media by that many workers
+pub record ArePlayed (workers : ℕ) (script : List Line) (media : Media) (prefix : List ℕ) (files : List FileText) (summary : List ℕ) : Type 0 where
   pub history : List Entry
-  pub is : IsHistory 0 script media history
-  pub alone : IsAlone script media history
+  pub is : IsHistory workers script media history
+  pub alone : AloneWithout workers script media history
+  pub delivered : NoneWaits history
   pub files_are : files ≡ files_of prefix media.tracks history
   pub summary_is : summary ≡ summary_of media.tracks history
   pub distinct : HaveDistinctNames files
 
--- both files were read, and this is the history of their play
+-- both files were read, and this is the history of their play: no claim is open at its end, and with no worker a script of lane 0 alone is
+-- played in the order of one thread
 pub record IsPlay (old : ShelfState) (names : Names) (media : Media) (history : List Entry) : Type 0 where
   pub script : List Line
   pub script_read : ScriptRead old names.script script
   pub media_read : MediaRead old names.media media
   pub is : IsHistory names.workers script media history
-  -- the order of one thread, since no worker can be started yet
-  pub alone : IsAlone script media history
+  pub alone : AloneWithout names.workers script media history
+  pub delivered : NoneWaits history
 
 -- there is one such history, and its texts are written
 pub record HasPlayed (old new : ShelfState) (names : Names) : Type 0 where

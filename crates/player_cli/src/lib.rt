@@ -19,6 +19,7 @@ mod top;
 mod words;
 mod write;
 
+pub use decrypt_workers::{FreeGate, Gate, Spot};
 pub use fault::{fault_text, status};
 pub use outcome::{Outcome, UsageFault, UsageKind, Which};
 pub use script_lang::ScriptKind;

@@ -5,21 +5,32 @@ use track_media::MediaKind;
 /// Which of the two files.
 #[derive(Clone, Copy, Debug, PartialEq, Eq)]
 pub enum Which {
+    /// The script, which `play` reads first.
     Script,
+    /// The media file.
     Media,
 }
 
 /// What is wrong with a word.
 #[derive(Clone, Copy, Debug, PartialEq, Eq)]
 pub enum UsageKind {
+    /// No word was given.
     MissingCommand,
+    /// The first word is none of the commands.
     UnknownCommand,
+    /// The words end too early; the place is the one behind the last word.
     MissingWord,
+    /// A word stands where the form of its command allows none.
     ExtraWord,
+    /// The word is no decimal number, or one above its limit.
     BadNumber,
+    /// The word is no type of initialization data.
     BadKind,
+    /// The word is not pairs of hexadecimal digits.
     BadHex,
+    /// The name of a file or the prefix is empty.
     EmptyName,
+    /// A file that the play reads has a name that it may write; the place is that of the prefix.
     NameClash,
 }
 
@@ -37,14 +48,18 @@ pub enum Outcome {
     Played,
     /// Another command said all of its text.
     Done,
+    /// The words are outside their grammar; nothing was read, written or said.
     Usage(UsageFault),
-    /// The first line with a broken rule, counted from 1, and its first broken rule.
+    /// The first line with a broken rule, counted from 1, and its first broken rule; nothing was written or said.
     ScriptRefused { line: u32, kind: ScriptKind },
-    /// The first byte of what breaks the first broken rule, counted from 0.
+    /// The first byte of what breaks the first broken rule, counted from 0; nothing was written or said.
     MediaRefused { place: u64, kind: MediaKind },
-    /// The file has more bytes than the limit.
+    /// The file has more bytes than the limit; nothing was written or said.
     TooLarge { which: Which, limit: u64 },
+    /// A read failed, or a file that the command has to read is not there; nothing was written or said.
     ReadFault,
+    /// Writing or saying failed; what came before is written, and of the text at hand a front may be.
     WriteFault,
+    /// Memory was wanting; where that was while a text was written or said, what came before it is there.
     OutOfMemory,
 }

@@ -1,8 +1,10 @@
 // What only a shelf in memory shows: calls that fail by their number. What the built program shows stands in checks/ and examples/.
-use crate::{Outcome, UsageFault, UsageKind, fault_text, run_player, run_quiet, status};
+use crate::{FreeGate, Outcome, UsageFault, UsageKind, fault_text, run_player, run_quiet, status};
 use eme_edge::MemoryShelf;
 use std::alloc::{AllocError, Global};
+use std::sync::Wait;
 use std::test::Fail;
+use std::thread::Threads;
 
 const SCRIPT: &[u8] =
     b"EMES 1\n0 create a temporary\n0 request a keyids text:{\"kids\":[\"AAECAwQFBgcICQoLDA0ODw\"]}\n0 settle\n0 update a text:{\"keys\":[{\"kty\":\"oct\",\"kid\":\"AAECAwQFBgcICQoLDA0ODw\",\"k\":\"K34VFiiu0qar9xWICc9PPA\"}],\"type\":\"temporary\"}\n0 feed\n";
@@ -90,13 +92,19 @@ fn words_of(alloc: Global, line: &str) -> Result<Vec<String>, AllocError> {
     Ok(words)
 }
 
-fn run_line(shelf: &mut MemoryShelf, alloc: Global, line: &str) -> Result<Outcome, AllocError> {
+fn run_line<R: Threads + Wait + Sync>(
+    rt: &R,
+    shelf: &mut MemoryShelf,
+    alloc: Global,
+    line: &str,
+) -> Result<Outcome, AllocError> {
     let words = words_of(alloc, line)?;
-    Ok(run_player(alloc, words.as_slice(), shelf))
+    Ok(run_player(rt, alloc, words.as_slice(), shelf, &FreeGate))
 }
 
 // Runs the line on a shelf with the script `s` and the media `m`.
-fn run_on(
+fn run_on<R: Threads + Wait + Sync>(
+    rt: &R,
     shelf: &mut MemoryShelf,
     alloc: Global,
     line: &str,
@@ -104,7 +112,7 @@ fn run_on(
 ) -> Result<Left, AllocError> {
     shelf.put_file("s", SCRIPT)?;
     shelf.put_file("m", MEDIA)?;
-    let outcome = run_line(shelf, alloc, line)?;
+    let outcome = run_line(rt, shelf, alloc, line)?;
     Ok(Left {
         outcome,
         log: file_held(shelf, "out.log", LOG),
@@ -115,7 +123,8 @@ fn run_on(
 }
 
 // The same where the k-th of these calls fails.
-fn run_failing(
+fn run_failing<R: Threads + Wait + Sync>(
+    rt: &R,
     alloc: Global,
     line: &str,
     text: &[u8],
@@ -124,7 +133,7 @@ fn run_failing(
 ) -> Result<Left, AllocError> {
     let mut shelf = MemoryShelf::new(alloc);
     fail(&mut shelf, call, k)?;
-    run_on(&mut shelf, alloc, line, text)
+    run_on(rt, &mut shelf, alloc, line, text)
 }
 
 const UNREAD: Left = Left {
@@ -139,11 +148,11 @@ const UNREAD: Left = Left {
 #[test]
 fn each_failing_read_is_a_read_fault(rt: HostRuntime) -> Result<(), Fail> {
     for k in 1..7 {
-        let left = run_failing(rt.alloc(), PLAY, SUMMARY, Call::Read, k)?;
+        let left = run_failing(&rt, rt.alloc(), PLAY, SUMMARY, Call::Read, k)?;
         assert_eq!(rt; left, UNREAD);
     }
     for k in 1..4 {
-        let left = run_failing(rt.alloc(), INSPECT, INSPECTION, Call::Read, k)?;
+        let left = run_failing(&rt, rt.alloc(), INSPECT, INSPECTION, Call::Read, k)?;
         assert_eq!(rt; left, UNREAD);
     }
     Ok(())
@@ -192,7 +201,7 @@ fn each_failing_write_is_a_write_fault(rt: HostRuntime) -> Result<(), Fail> {
             35,
         ),
     ] {
-        let left = run_failing(rt.alloc(), line, text, call, k)?;
+        let left = run_failing(&rt, rt.alloc(), line, text, call, k)?;
         let said = Held::Front(said);
         let (outcome, faults) = (Outcome::WriteFault, 1);
         assert_eq!(rt;
@@ -225,7 +234,7 @@ fn a_command_without_a_fault_is_done(rt: HostRuntime) -> Result<(), Fail> {
             Held::Nothing,
         ),
     ] {
-        let left = run_failing(rt.alloc(), line, text, call, k)?;
+        let left = run_failing(&rt, rt.alloc(), line, text, call, k)?;
         let (log, track) = (held, held);
         let (said, faults) = (Held::Whole, 0);
         assert_eq!(rt;
@@ -242,18 +251,68 @@ fn a_command_without_a_fault_is_done(rt: HostRuntime) -> Result<(), Fail> {
     Ok(())
 }
 
-fn run_words(alloc: Global, words: &[String], quiet: bool) -> Outcome {
+fn plays_by<R: Threads + Wait + Sync>(
+    rt: &R,
+    alloc: Global,
+    line: &str,
+) -> Result<(Outcome, Held), AllocError> {
     let mut shelf = MemoryShelf::new(alloc);
-    if quiet {
-        return run_quiet(alloc, words, &mut shelf);
+    let left = run_on(rt, &mut shelf, alloc, line, SUMMARY)?;
+    Ok((left.outcome, left.track))
+}
+
+#[test]
+fn workers_write_the_same_track(rt: HostRuntime) -> Result<(), Fail> {
+    for line in [
+        "play s m out",
+        "play s m out --workers 1",
+        "play s m out --workers 16",
+    ] {
+        assert_eq!(rt;
+            plays_by(&rt, rt.alloc(), line)?,
+            (Outcome::Played, Held::Whole)
+        );
     }
-    run_player(alloc, words, &mut shelf)
+    Ok(())
+}
+
+// Words on a shelf without files: where they are in their grammar a file is not found.
+#[test]
+fn the_number_of_workers_is_read(rt: HostRuntime) -> Result<(), Fail> {
+    for (line, place, kind) in [
+        ("play s m out --workers", 6, UsageKind::MissingWord),
+        ("play s m out --workers 17", 6, UsageKind::BadNumber),
+        ("play s m out --workers 17 x", 6, UsageKind::BadNumber),
+        ("play s m out --workers 00", 6, UsageKind::BadNumber),
+        ("play s m out --workers +1", 6, UsageKind::BadNumber),
+        ("play s m out --workers 4x", 6, UsageKind::BadNumber),
+        ("play s m out --workers 16 x", 7, UsageKind::ExtraWord),
+        ("play s m out --worker 4", 5, UsageKind::ExtraWord),
+    ] {
+        let mut shelf = MemoryShelf::new(rt.alloc());
+        let outcome = run_line(&rt, &mut shelf, rt.alloc(), line)?;
+        assert_eq!(rt; outcome, Outcome::Usage(UsageFault { place, kind }));
+    }
+    for line in [
+        "play s m out",
+        "play s m out --workers 0",
+        "play s m out --workers 16",
+    ] {
+        let mut shelf = MemoryShelf::new(rt.alloc());
+        let outcome = run_line(&rt, &mut shelf, rt.alloc(), line)?;
+        assert_eq!(rt; outcome, Outcome::ReadFault);
+    }
+    Ok(())
 }
 
 #[test]
 fn a_quiet_call_does_not_play(rt: HostRuntime) -> Result<(), Fail> {
     let words = words_of(rt.alloc(), PLAY)?;
-    let outcome = run_words(rt.alloc(), words.as_slice(), true);
+    let outcome = run_quiet(
+        rt.alloc(),
+        words.as_slice(),
+        &mut MemoryShelf::new(rt.alloc()),
+    );
     let (place, kind) = (1, UsageKind::UnknownCommand);
     assert_eq!(rt; outcome, Outcome::Usage(UsageFault { place, kind }));
     assert_eq!(rt; status(&outcome), 2);
@@ -268,8 +327,11 @@ fn a_quiet_call_does_not_play(rt: HostRuntime) -> Result<(), Fail> {
 #[test]
 fn no_word_is_no_command(rt: HostRuntime) {
     let (place, kind) = (1, UsageKind::MissingCommand);
-    for quiet in [false, true] {
-        let outcome = run_words(rt.alloc(), &[], quiet);
-        assert_eq!(rt; outcome, Outcome::Usage(UsageFault { place, kind }));
-    }
+    let none = Outcome::Usage(UsageFault { place, kind });
+    let mut shelf = MemoryShelf::new(rt.alloc());
+    assert_eq!(rt; run_quiet(rt.alloc(), &[], &mut shelf), none);
+    assert_eq!(rt;
+        run_player(&rt, rt.alloc(), &[], &mut shelf, &FreeGate),
+        none
+    );
 }

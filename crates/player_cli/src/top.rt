@@ -9,15 +9,26 @@ use crate::play::play_files;
 use crate::quiet::read_quiet;
 use crate::tell::tell;
 use crate::words::{play_command, read_play};
+use decrypt_workers::Gate;
 use eme_edge::Shelf;
 use std::alloc::Global;
+use std::sync::Wait;
+use std::thread::Threads;
 
-/// Does what the words ask for. The words are those of the command line, without the program's name.
-pub fn run_player<S: Shelf>(alloc: Global, words: &[String], shelf: &mut S) -> Outcome
+/// Does what the words ask for. The words are those of the command line, without the program's name. `play` starts a thread for each worker
+/// and for each lane beside lane 0, and waits for them; a worker passes the gate with each claim. Every other command is one call of
+/// `run_quiet`, and waits for nobody.
+pub fn run_player<R: Threads + Wait + Sync, S: Shelf, G: Gate + Sync>(
+    rt: &R,
+    alloc: Global,
+    words: &[String],
+    shelf: &mut S,
+    gate: &G,
+) -> Outcome
     ensures says { Says (map string_bytes words.now) result (S.state shelf.old) (S.state shelf.new) }
     ensures complete { IsDoneWhole (command (map string_bytes words.now)) result (S.state shelf.old) (S.state shelf.new) }
 {
-    run_words(alloc, words, shelf)
+    run_words(rt, alloc, words, shelf, gate)
 }
 
 /// Does what the words of a command ask for that plays no files. `play` is an unknown command here.
@@ -28,22 +39,34 @@ pub fn run_quiet<S: Shelf>(alloc: Global, words: &[String], shelf: &mut S) -> Ou
     run_quietly(alloc, words, shelf)
 }
 
-fn run_words<S: Shelf>(alloc: Global, words: &[String], shelf: &mut S) -> Outcome
+fn run_words<R: Threads + Wait + Sync, S: Shelf, G: Gate + Sync>(
+    rt: &R,
+    alloc: Global,
+    words: &[String],
+    shelf: &mut S,
+    gate: &G,
+) -> Outcome
     ensures { Says (map string_bytes words.now) result (S.state shelf.old) (S.state shelf.new) }
 {
     match play_command(words) {
         None => run_quiet(alloc, words, shelf),
-        Some(rest) => run_play(alloc, rest, shelf),
+        Some(rest) => run_play(rt, alloc, rest, shelf, gate),
     }
 }
 
 /// Plays what the words behind `play` name.
-fn run_play<S: Shelf>(alloc: Global, words: &[String], shelf: &mut S) -> Outcome
+fn run_play<R: Threads + Wait + Sync, S: Shelf, G: Gate + Sync>(
+    rt: &R,
+    alloc: Global,
+    words: &[String],
+    shelf: &mut S,
+    gate: &G,
+) -> Outcome
     ensures { SaysOf (play_words (map string_bytes words.now)) result (S.state shelf.old) (S.state shelf.new) }
 {
     match read_play(words) {
         Err(fault) => Outcome::Usage(fault),
-        Ok(asked) => outcome_of(Outcome::Played, play_files(alloc, asked, shelf)),
+        Ok(asked) => outcome_of(Outcome::Played, play_files(rt, alloc, asked, shelf, gate)),
     }
 }
 

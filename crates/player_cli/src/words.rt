@@ -1,9 +1,14 @@
 // The words of the command line.
-ghost use Rattle.std.specs.Prelude.{◌≡◌, [], ◌∷◌, map, string_bytes, MatchOption, MatchResult, IfOk, Ok, Err};
+ghost use Rattle.std.specs.Prelude.{◌≡◌, ◌≤◌, [], ◌∷◌, map, string_bytes, MatchOption, MatchResult, IfOk, Ok, Err};
+ghost use Rattle.eme_types.specs.declared.limits.TheConstants.{MAX_WORKERS};
 ghost use Rattle.player_cli.specs.Command.{command, quiet_command, play_words, media_words, prefix_words, play_end, is_ending, clashes, IsAsked};
 
 use crate::outcome::{UsageFault, UsageKind};
-use text_words::{are_digits, behind};
+use eme_types::MAX_WORKERS;
+use text_words::{are_digits, behind, number_up_to};
+
+/// Workers of a play whose words name no number.
+const DEFAULT_WORKERS: u8 = 4;
 
 /// What the words of a play ask for.
 #[derive(Clone, Copy)]
@@ -42,7 +47,7 @@ pub fn play_command(words: &[String]) -> Option<&[String]>
 /// Reads the words behind `play` from left to right.
 pub fn read_play(words: &[String]) -> Result<PlayWords<'_>, UsageFault>
     ensures asked { MatchResult result (IsAsked (play_words (map string_bytes words.now))) (λ e. play_words (map string_bytes words.now) ≡ Err e) }
-    ensures alone { IfOk result (λ w. w.workers ≡ 0) }
+    ensures few { IfOk result (λ w. w.workers ≤ MAX_WORKERS) }
 {
     let Some((script, rest)) = next_word(words) else {
         return Err(bad_word(2, UsageKind::MissingWord));
@@ -56,7 +61,7 @@ pub fn read_play(words: &[String]) -> Result<PlayWords<'_>, UsageFault>
 /// Reads the words behind the name of the script.
 fn read_media_words<'a>(script: &'a str, words: &'a [String]) -> Result<PlayWords<'a>, UsageFault>
     ensures asked { MatchResult result (IsAsked (media_words script.now (map string_bytes words.now))) (λ e. media_words script.now (map string_bytes words.now) ≡ Err e) }
-    ensures alone { IfOk result (λ w. w.workers ≡ 0) }
+    ensures few { IfOk result (λ w. w.workers ≤ MAX_WORKERS) }
 {
     let Some((media, rest)) = next_word(words) else {
         return Err(bad_word(3, UsageKind::MissingWord));
@@ -74,7 +79,7 @@ fn read_prefix_words<'a>(
     words: &'a [String],
 ) -> Result<PlayWords<'a>, UsageFault>
     ensures asked { MatchResult result (IsAsked (prefix_words script.now media.now (map string_bytes words.now))) (λ e. prefix_words script.now media.now (map string_bytes words.now) ≡ Err e) }
-    ensures alone { IfOk result (λ w. w.workers ≡ 0) }
+    ensures few { IfOk result (λ w. w.workers ≤ MAX_WORKERS) }
 {
     let Some((prefix, rest)) = next_word(words) else {
         return Err(bad_word(4, UsageKind::MissingWord));
@@ -88,13 +93,13 @@ fn read_prefix_words<'a>(
     if clashes(prefix, media) {
         return Err(bad_word(4, UsageKind::NameClash));
     }
-    match end_fault(rest) {
-        Some(fault) => Err(fault),
-        None => Ok(PlayWords {
+    match read_workers(rest) {
+        Err(fault) => Err(fault),
+        Ok(workers) => Ok(PlayWords {
             script,
             media,
             prefix,
-            workers: 0,
+            workers,
         }),
     }
 }
@@ -125,22 +130,25 @@ fn is_ending(text: &[u8]) -> bool
     are_digits(text)
 }
 
-/// What is wrong behind the prefix.
-fn end_fault(words: &[String]) -> Option<UsageFault>
-    ensures { result ≡ play_end (map string_bytes words.now) }
+/// Reads the number of workers behind the prefix.
+fn read_workers(words: &[String]) -> Result<u8, UsageFault>
+    ensures asked { MatchResult result (λ n. play_end (map string_bytes words.now) ≡ Ok n) (λ e. play_end (map string_bytes words.now) ≡ Err e) }
+    ensures few { IfOk result (λ n. n ≤ MAX_WORKERS) }
 {
-    let (option, rest) = next_word(words)?;
-    if option != "--workers" {
-        return Some(bad_word(5, UsageKind::ExtraWord));
-    }
-    let Some((number, rest)) = next_word(rest) else {
-        return Some(bad_word(6, UsageKind::MissingWord));
+    let Some((option, rest)) = next_word(words) else {
+        return Ok(DEFAULT_WORKERS);
     };
-    if number != "0" {
-        return Some(bad_word(6, UsageKind::BadNumber));
+    if option != "--workers" {
+        return Err(bad_word(5, UsageKind::ExtraWord));
     }
+    let Some((word, rest)) = next_word(rest) else {
+        return Err(bad_word(6, UsageKind::MissingWord));
+    };
+    let Some(workers) = number_up_to(u64::from(MAX_WORKERS), word.as_bytes()) else {
+        return Err(bad_word(6, UsageKind::BadNumber));
+    };
     match next_word(rest) {
-        None => None,
-        Some(_) => Some(bad_word(7, UsageKind::ExtraWord)),
+        None => Ok(workers as u8),
+        Some(_) => Err(bad_word(7, UsageKind::ExtraWord)),
     }
 }
