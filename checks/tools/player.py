@@ -1,5 +1,6 @@
 """Plays scripts and media with the built program, and has the checker of histories look over what comes out."""
 import pathlib
+import shutil
 import subprocess
 import tempfile
 from typing import NamedTuple
@@ -9,7 +10,7 @@ from media_reader import read_media
 from script_reader import read_script
 
 PROGRAM = pathlib.Path(__file__).resolve().parents[2] / "crates/bittorgas/out/bittorgas"
-WORKERS = (0, 1, 2, 4, 16)
+WORKERS, DEFAULT_WORKERS = (0, 1, 2, 4, 16), 4
 SECONDS = 120
 
 
@@ -60,12 +61,19 @@ def check_files(script, media, prefix, workers, summary, parsed=None):
 
 
 def play(script, media, workers, parsed=None):
-    """Plays with a number of workers, and checks what comes out."""
-    with tempfile.TemporaryDirectory() as folder:
-        prefix = f"{folder}/out"
-        for name, content in (("script", script), ("media", media)):
-            pathlib.Path(f"{folder}/{name}").write_bytes(content)
-        ran = run("play", f"{folder}/script", f"{folder}/media", prefix, "--workers", str(workers))
+    """Plays with a number of workers, or without the option where it is none, and checks what comes out. The files of a failed play stay."""
+    option = [] if workers is None else ["--workers", str(workers)]
+    folder = tempfile.mkdtemp()
+    prefix = f"{folder}/out"
+    for name, content in (("script", script), ("media", media)):
+        pathlib.Path(f"{folder}/{name}").write_bytes(content)
+    try:
+        ran = run("play", f"{folder}/script", f"{folder}/media", prefix, *option)
         if ran.returncode != 0:
             raise Failed(f"the play ends with {ran.returncode}: {ran.stderr.decode().strip()}")
-        return check_files(script, media, prefix, workers, ran.stdout, parsed)
+        pathlib.Path(f"{prefix}.summary").write_bytes(ran.stdout)
+        played = check_files(script, media, prefix, DEFAULT_WORKERS if workers is None else workers, ran.stdout, parsed)
+    except Failed as fault:
+        raise Failed(f"{fault}\n  its files are {folder}/*") from None
+    shutil.rmtree(folder)
+    return played

@@ -18,7 +18,7 @@ class Maker:
     # The media
 
     def sample(self, id, kids):
-        size = self.random.choice((0, 5, 16, 32, 47, 64, 200, self.random.randrange(1, 3000)))
+        size = self.random.choice((0, 5, 16, 32, 47, 64, 200, 500, self.random.randrange(1, 3000)))
         data = self.random.randbytes(size).hex() or "-"
         scheme = self.random.choice(("clear", "cenc", "cenc", "cbcs", "cbcs"))
         if scheme == "clear":
@@ -33,20 +33,20 @@ class Maker:
     def media(self):
         tracks = self.random.sample((1, 2, 7, 4294967295), self.random.choice((1, 2, 2, 3)))
         lines = ["SMPL 1", *(f"track {id}" for id in tracks)]
-        self.fragments = self.random.randrange(1, 5)
-        for fragment in range(self.fragments):
+        fragments = self.random.randrange(2, 6)
+        for fragment in range(fragments):
             lines.append("fragment")
             if self.random.random() < 0.3:
                 lines.append(f"init keyids {json_text({'kids': [base64url(self.kids[0])]}).encode().hex()}")
             # an id that no session gets, in the last fragment of some
-            kids = self.kids[:3] if fragment + 1 < self.fragments or self.random.random() < 0.7 else self.kids
-            lines += [self.sample(self.random.choice(tracks), kids) for _ in range(self.random.choice((0, 3, 10, 30)))]
+            kids = self.kids[:3] if fragment + 1 < fragments or self.random.random() < 0.7 else self.kids
+            lines += [self.sample(self.random.choice(tracks), kids) for _ in range(self.random.choice((0, 5, 20, 40)))]
         return "".join(f"{it}\n" for it in lines).encode()
 
     # The script
 
     def key_set(self):
-        kids = self.random.sample(self.kids[:3], self.random.choice((1, 2, 3, 3)))
+        kids = self.random.sample(self.kids[:3], self.random.choice((1, 2, 3, 3, 3, 3)))
         keys = [{"kty": "oct", "kid": base64url(kid), "k": base64url(self.random.choice(self.keys[kid]))} for kid in kids]
         expires = {"expires": self.random.randrange(0, 1500)} if self.random.random() < 0.3 else {}
         return json_text({"keys": keys, "type": "temporary", **expires})
@@ -61,14 +61,14 @@ class Maker:
 
     def create(self):
         self.labels.append(f"s{len(self.labels)}")
-        return f"create {self.labels[-1]} {self.random.choice(('temporary',) * 9 + ('persistent-license',))}"
+        return f"create {self.labels[-1]} {self.random.choice(('temporary',) * 14 + ('persistent-license',))}"
 
     def update(self):
         data = self.random.choice((*[self.key_set()] * 11, "x"))
         return f"update {self.random.choice(self.labels)} text:{data}"
 
     def call(self):
-        verb = self.random.choice(("update",) * 6 + ("certificate",) * 4 + ("close", "remove", "remove", "access", "nobody"))
+        verb = self.random.choice(("update",) * 8 + ("certificate",) * 2 + ("close", "remove", "access", "nobody"))
         label = self.random.choice(self.labels)
         return {
             "update": self.update(), "certificate": "certificate hex:00", "close": f"close {label}", "remove": f"remove {label}",
@@ -85,19 +85,31 @@ class Maker:
         self.moment += self.random.randrange(0, 700)
         return f"clock {self.moment}"
 
+    def delay(self, *counts):
+        """Calls that change nothing: other lanes and workers go on while they are made."""
+        return ["certificate hex:"] * (0 if self.is_paced else self.random.choice(counts))
+
+    def burst(self):
+        """Samples are fed, and while workers hold claims on them a session loses its keys."""
+        label = self.random.choice(self.labels)
+        change = self.random.choice((f"close {label}", f"remove {label}", self.clock(), f"update {label} text:{self.key_set()}"))
+        return ["feed", *self.delay(0, 2, 10), change, *self.delay(0, 5), "settle", f"update {label} text:{self.key_set()}"]
+
     def lane_0(self):
         lines = [*self.opening(), "settle"]
-        if self.random.random() < 0.8:
-            lines += [self.update(), *self.random.choice(([], ["settle"]))]
-        for _ in range(self.random.randrange(4, 16)):
-            verb = self.random.choice(("feed", "feed", "settle", "settle", "clock", "call", "call", "call"))
-            lines.append({"clock": self.clock, "call": self.call}.get(verb, lambda verb=verb: verb)())
-            # while these are made, workers claim what was fed
-            lines += ["certificate hex:"] * self.random.choice((0, 0, 5)) if verb == "feed" and not self.is_paced else []
+        for label in self.labels[:]:
+            lines += [f"update {label} text:{self.key_set()}"] * (self.random.random() < 0.8)
+        lines += ["settle"] * (self.random.random() < 0.7)
+        for _ in range(self.random.randrange(2, 8)):
+            verb = self.random.choice(("feed", "settle", "clock", "call", "call", "burst", "burst", "burst"))
+            lines += {"clock": lambda: [self.clock()], "call": lambda: [self.call()], "burst": self.burst}.get(verb, lambda verb=verb: [verb])()
         return lines
 
     def lane(self):
-        return [*(self.opening() if self.random.random() < 0.3 else []), *(self.call() for _ in range(self.random.randrange(1, 8)))]
+        lines = self.opening() if self.random.random() < 0.3 else []
+        for _ in range(self.random.randrange(1, 8)):
+            lines += [*self.delay(0, 0, 5, 20), self.call()]
+        return lines
 
     def script(self):
         lanes = {0: self.lane_0()}
@@ -106,7 +118,7 @@ class Maker:
         else:
             for lane in self.random.sample(range(1, 8), self.random.choice((0, 1, 2, 3, 7))):
                 lanes[lane] = self.lane()
-        lines = ["EMES 1", f"# seed made this script of lanes {', '.join(map(str, lanes))}"]
+        lines = ["EMES 1", f"# {'a paced script' if self.is_paced else 'lanes ' + ', '.join(map(str, lanes))}"]
         left = [lane for lane, made in lanes.items() for _ in made]
         self.random.shuffle(left)
         for lane in left:
