@@ -2,14 +2,11 @@
 import re
 
 import key_texts
+from formats_page import CODECS
 from key_texts import Refused
 
 SYSTEM = b"org.w3.clearkey"
 INIT_TYPES = ("cenc", "keyids")
-CODECS = {
-    "video": ("avc1", "avc3", "hev1", "hvc1", "vp09", "av01"),
-    "audio": ("mp4a", "ac-3", "ec-3", "Opus", "fLaC"),
-}
 CODEC = r"[^ ,;\"]+"
 CODEC_LIST = rf"{CODEC}(?:, *{CODEC})*"
 

@@ -9,11 +9,12 @@ import collections
 import re
 from typing import NamedTuple
 
+from formats_page import LIMITS
 from samples import Sample, open_sample
 from script_reader import CALLS
 from world import Session, World
 
-CLAIM_WINDOW = 16
+CLAIM_WINDOW = LIMITS["CLAIM_WINDOW"]
 
 NUMBER, KID = "(0|[1-9][0-9]*)", "((?:[0-9a-f]{2})+)"
 FORMS = {
@@ -25,7 +26,13 @@ TEXTS = {verb: re.compile(" ".join((NUMBER, verb, *words))) for verb, words in F
 
 
 class Wrong(Exception):
-    """What is wrong: a kind, the line of the log or none, and words for it."""
+    """What is wrong: a kind, the line of the log or none, and words for it.
+
+    Syntax: a line is no entry with the next place. Order: it is not what the script's lines or the fragments have next. Illegal: it is not
+    allowed after the entries before it. Effects: an effect is missing, another one, or too many. Staffing: a worker that is not there,
+    or that gives up what it may not. Incomplete: the log ends too early. Open: a claim was not ended. Track, Summary: what stands
+    beside the log.
+    """
 
     def __init__(self, kind, line, what):
         super().__init__(f"{kind}{f' at line {line} of the log' if line else ''}: {what}")
@@ -46,7 +53,7 @@ class Checker:
     def __init__(self, script, media, workers):
         self.media, self.workers = media, workers
         self.world = World(media.tracks)
-        self.lanes = {lane: collections.deque(it for it in script if it.lane == lane) for lane in range(8)}
+        self.lanes = {lane: collections.deque(it for it in script if it.lane == lane) for lane in range(LIMITS["MAX_LANES"])}
         self.fed, self.implied = 0, "settle"  # how many fragments are fed; the verb of the implied entry that comes next
         self.claims, self.live = {}, {}  # by their places: all claims, and those that are live
         self.undelivered, self.taken = set(), set()

@@ -5,10 +5,8 @@ import struct
 from typing import NamedTuple, Optional
 
 import box_reader
+from formats_page import LIMITS
 
-MOST_BYTES = 65536
-MOST_KID_BYTES = 512
-LAST_MOMENT = 1 << 53
 MOST_DEPTH = 127
 COMMON_SYSTEM = bytes.fromhex("1077efecc0b24d02ace33c1e52e2fb4b")
 
@@ -50,10 +48,11 @@ def read_json(data):
         text = data.decode()
         value = json.loads(text, parse_int=whole, parse_float=fraction, parse_constant=no_constant)
         # a surrogate alone is no character
-        json.dumps(value, ensure_ascii=False).encode()
+        json_text(value).encode()
+        is_too_deep = depth(value) > MOST_DEPTH
     except (ValueError, RecursionError) as fault:
         raise Refused(str(fault)) from None
-    if depth(value) > MOST_DEPTH:
+    if is_too_deep:
         raise Refused("too deep")
     return value
 
@@ -84,7 +83,7 @@ def from_base64url(text):
 
 def kid_of(text):
     kid = from_base64url(text)
-    if not 1 <= len(kid) <= MOST_KID_BYTES:
+    if not 1 <= len(kid) <= LIMITS["MAX_KID_BYTES"]:
         raise Refused("a key id of another length")
     return kid
 
@@ -122,7 +121,7 @@ def kids_of_pssh(data):
 
 def kids_of(kind, data):
     """The key ids of initialization data, each once; none where it has none; refused where it is outside its grammar."""
-    if len(data) > MOST_BYTES:
+    if len(data) > LIMITS["MAX_INIT_DATA_BYTES"]:
         raise Refused("too long")
     try:
         kids = kids_of_keyids(data) if kind == b"keyids" else kids_of_pssh(data)
@@ -144,7 +143,7 @@ class KeySet(NamedTuple):
 
 
 def read_key_set(data):
-    if len(data) > MOST_BYTES:
+    if len(data) > LIMITS["MAX_KEY_SET_BYTES"]:
         raise Refused("too long")
     value = read_json(data)
     if not isinstance(value, dict) or not isinstance(value.get("keys"), list) or not value["keys"]:
@@ -160,6 +159,6 @@ def read_key_set(data):
     if value.get("type", "temporary") != "temporary":
         raise Refused("another type")
     expires = value.get("expires", 0)
-    if type(expires) is not int or not 0 <= expires <= LAST_MOMENT:
+    if type(expires) is not int or not 0 <= expires <= LIMITS["MAX_MOMENT"]:
         raise Refused("no moment")
     return KeySet(keys, expires if "expires" in value else None)

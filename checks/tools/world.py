@@ -6,9 +6,7 @@ import collections
 
 import access
 import key_texts
-
-MOST_SESSIONS = 64
-MOST_SESSION_KIDS = 256
+from formats_page import LIMITS
 
 
 class Session:
@@ -97,7 +95,7 @@ class World:
     def call_create(self, promise, label, kind):
         if kind != b"temporary":
             raise Reject("NotSupportedError")
-        if len(self.sessions) == MOST_SESSIONS:
+        if len(self.sessions) == LIMITS["MAX_SESSIONS"]:
             raise Reject("QuotaExceededError")
         self.sessions.append(Session(len(self.sessions) + 1))
         self.by_label.setdefault(label, self.sessions[-1])
@@ -159,7 +157,7 @@ class World:
         except key_texts.Refused:
             self.tasks.append((self.task_reject, promise, "TypeError"))
             return
-        if len(session.table.keys() | {kid for kid, _ in keys}) > MOST_SESSION_KIDS:
+        if len(session.table.keys() | {kid for kid, _ in keys}) > LIMITS["MAX_SESSION_KIDS"]:
             self.tasks.append((self.task_reject, promise, "QuotaExceededError"))
             return
         before = dict(session.table), session.statuses(self.moment)
