@@ -1,4 +1,4 @@
-"""Prints what the moov and moof boxes of a fragmented MP4 file say, as the program box_text does.
+"""Prints what the moov and moof boxes of a fragmented MP4 file say, as the program box_text does; and reads them for media_reader.
 
 A reader written apart from the proved one, after ISO/IEC 14496-12. It refuses nothing: a broken header ends the reading.
 """
@@ -71,14 +71,32 @@ def default_values(data, moov):
     return found
 
 
-def print_entries(data, stbl):
+def track_id(data, trak):
+    tkhd = first_of(data, trak, "tkhd")
+    return u32(data, tkhd.body + 4 + (8 if data[tkhd.body] == 0 else 16))
+
+
+def sample_table(data, trak):
+    """Gives the stbl box of a track."""
+    box = trak
+    for kind in ("mdia", "minf", "stbl"):
+        box = first_of(data, box, kind)
+    return box
+
+
+def sample_entries(data, stbl):
+    """Gives each sample entry with its sinf boxes."""
     stsd = first_of(data, stbl, "stsd")
     for entry in boxes(data, stsd.body + 8, stsd.end):
+        children = boxes(data, entry.body + BYTES_BEFORE_CHILDREN[entry.kind], entry.end) if entry.kind in BYTES_BEFORE_CHILDREN else []
+        yield entry, [child for child in children if child.kind == "sinf"]
+
+
+def print_entries(data, stbl):
+    for entry, sinfs in sample_entries(data, stbl):
         print(f" entry {entry.place}")
-        if entry.kind in BYTES_BEFORE_CHILDREN:
-            for child in boxes(data, entry.body + BYTES_BEFORE_CHILDREN[entry.kind], entry.end):
-                if child.kind == "sinf":
-                    print_span(child)
+        for sinf in sinfs:
+            print_span(sinf)
 
 
 def print_movie(data, moov):
@@ -87,12 +105,9 @@ def print_movie(data, moov):
         print_span(pssh)
     defaults = default_values(data, moov)
     for trak in all_of(data, moov, "trak"):
-        tkhd = first_of(data, trak, "tkhd")
-        track = u32(data, tkhd.body + 4 + (8 if data[tkhd.body] == 0 else 16))
+        track = track_id(data, trak)
         print(f" track {trak.place} {track}")
-        stbl = trak
-        for kind in ("mdia", "minf", "stbl"):
-            stbl = first_of(data, stbl, kind)
+        stbl = sample_table(data, trak)
         print_entries(data, stbl)
         for sgpd in all_of(data, stbl, "sgpd"):
             print_span(sgpd)
@@ -111,18 +126,33 @@ def flagged(data, place, flags, widths):
     return values, place
 
 
-def print_run(data, trun):
+def header_of(data, tfhd):
+    """Gives the track id, the flags and the values of a tfhd: base data offset, description index, default duration, size and flags."""
+    flags = u32(data, tfhd.body) & 0xFFFFFF
+    return u32(data, tfhd.body + 4), flags, flagged(data, tfhd.body + 8, flags, [(1, 8), (2, 4), (8, 4), (16, 4), (32, 4)])[0]
+
+
+def run_of(data, trun):
+    """Gives the count, the data offset, the first flags and the items of a trun: duration, size, flags and composition offset each."""
     flags, count, place = u32(data, trun.body) & 0xFFFFFF, u32(data, trun.body + 4), trun.body + 8
     offset = None
     if flags & 1:
         offset = struct.unpack_from(">i", data, place)[0]
         place += 4
     (first_flags,), place = flagged(data, place, flags, [(4, 4)])
-    print(f" trun {trun.place} {count} {option(offset)} {option(first_flags)}")
+    items = []
     if flags & 0xF00:
         for _ in range(count):
             values, place = flagged(data, place, flags, [(0x100, 4), (0x200, 4), (0x400, 4), (0x800, 4)])
-            print(" ".join(["  item", *map(option, values)]))
+            items.append(values)
+    return count, offset, first_flags, items
+
+
+def print_run(data, trun):
+    count, offset, first_flags, items = run_of(data, trun)
+    print(f" trun {trun.place} {count} {option(offset)} {option(first_flags)}")
+    for values in items:
+        print(" ".join(["  item", *map(option, values)]))
 
 
 def print_fragment(data, moof):
@@ -131,9 +161,8 @@ def print_fragment(data, moof):
         print_span(pssh)
     for traf in all_of(data, moof, "traf"):
         tfhd = first_of(data, traf, "tfhd")
-        flags = u32(data, tfhd.body) & 0xFFFFFF
-        values, _ = flagged(data, tfhd.body + 8, flags, [(1, 8), (2, 4), (8, 4), (16, 4), (32, 4)])
-        print(f" traf {traf.place} tfhd {tfhd.place} {u32(data, tfhd.body + 4)} {flags} {' '.join(map(option, values))}")
+        track, flags, values = header_of(data, tfhd)
+        print(f" traf {traf.place} tfhd {tfhd.place} {track} {flags} {' '.join(map(option, values))}")
         for trun in all_of(data, traf, "trun"):
             print_run(data, trun)
         for kind in ("senc", "saiz", "saio", "sgpd", "sbgp"):
@@ -155,4 +184,5 @@ def main(path):
         print(f"header {kind} {{ place: {place} }}")
 
 
-main(sys.argv[1])
+if __name__ == "__main__":
+    main(sys.argv[1])
