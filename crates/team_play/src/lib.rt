@@ -3,8 +3,11 @@
 
 mod crew;
 mod lane;
+mod lanes;
 mod lead;
 mod steps;
+#[cfg(test)]
+mod tests;
 mod together;
 
 pub use together::play_together;
