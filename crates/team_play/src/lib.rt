@@ -4,6 +4,7 @@
 mod crew;
 mod lane;
 mod lead;
+mod patience;
 mod steps;
 mod together;
 
