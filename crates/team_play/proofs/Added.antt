@@ -1,28 +1,23 @@
 -- What calls with a pass add, put together.
-use Rattle.std.proofs.Common.{◌≡◌, ℕ, ◌+◌, List, ◌⊎◌, [], ◌∷◌, ◌++◌, length, length-append, Option, Result, Ok, Err, refl, ap, sym, subst, ◌∙◌, append_assoc, append-nil, arith, ⊎_elim}
+use Rattle.std.proofs.Common.{◌≡◌, ℕ, ◌+◌, List, [], ◌∷◌, ◌++◌, length, length-append, Result, Ok, Err, refl, ap, sym, subst, ◌∙◌, append_assoc, append-nil, arith, ⊎_elim}
 use Rattle.std.proofs.lemmas.List.Sums.{fold-append}
 use Rattle.std.specs.Prelude.{OnOk}
 use Rattle.std.specs.declared.alloc.AllocError.{AllocError}
 use mathlib.Core.List.{IsPrefix}
-use Rattle.eme_types.specs.declared.call.AppCall.{AppCall}
-use Rattle.eme_types.specs.declared.media.Fragment.{Fragment}
 use Rattle.eme_types.specs.declared.entry.Entry.{Entry}
-use Rattle.eme_types.specs.declared.entry.Entry.TheVariants.{Call, Job, Task, Tick, Feed, Claim, Deliver, Publish, PassClear, WaitForKey, Settle}
-use Rattle.eme_types.specs.declared.entry.Verdict.{Verdict}
+use Rattle.eme_types.specs.declared.entry.Entry.TheVariants.{Job, Task, Tick, Claim, Deliver, Publish, PassClear, WaitForKey, Settle}
 use Rattle.key_sessions.specs.declared.fault.StepFault.{StepFault}
 use Rattle.key_claims.specs.declared.claim.Claim.{Claim as Held}
 use Rattle.key_claims.specs.declared.claim.Delivered.{Delivered}
 use Rattle.key_claims.specs.declared.claim.NotReady.{NotReady}
 use Rattle.key_claims.specs.declared.claim.NotWaiting.{NotWaiting}
 use Rattle.key_claims.specs.declared.claim.Published.{Published}
-use Rattle.cdm_state.specs.declared.cdm.CallBack.{CallBack}
-use Rattle.cdm_state.specs.declared.cdm.FeedBack.{FeedBack}
 use Rattle.cdm_state.specs.declared.cdm.SettleFault.{SettleFault}
 use Rattle.key_sessions.specs.World.{empty_world}
 use Rattle.cdm_state.specs.After.{after_entry}
 use Rattle.cdm_state.specs.Run.{Run, with_entry}
 use Rattle.cdm_state.specs.History.{world, AtRest}
-use Rattle.cdm_state.specs.Does.{CallDoes, JobDoes, TaskDoes, TickDoes, WaitDoes, FeedDoes, PublishDoes, PassClearDoes, DeliverDoes, SettleDoes}
+use Rattle.cdm_state.specs.Does.{JobDoes, TaskDoes, TickDoes, WaitDoes, PublishDoes, PassClearDoes, DeliverDoes, SettleDoes}
 use Rattle.book_lock.proofs.Fronts.{prefix_self}
 use Rattle.decrypt_workers.specs.Desks.{Placed, Adds as DeskAdds, IsClaim}
 use Rattle.decrypt_workers.specs.Workers.{IsAnyClaim}
@@ -30,7 +25,6 @@ use Rattle.decrypt_workers.proofs.Works.{prefix_trans}
 use Rattle.shared_cdm.specs.Shared.{run, Shared}
 use Rattle.shared_cdm.proofs.Held.{later_of, delivered_as}
 use Rattle.play_parts.specs.Asks.{IsStep}
-use Rattle.play_parts.specs.Parts.{AreSteps}
 use Rattle.play_parts.proofs.Steps.{steps_none, steps_both, steps_one, steps_claim}
 use Rattle.team_play.specs.Adds.{Steps, AddsOne, StepsAnd, Settles}
 
@@ -73,14 +67,9 @@ takes_none Does answer ids s s' o o' x is = record { later = later_of Does ids s
 
 -- ---- the calls of the core
 
-pub by_call : (lane line promise : ℕ) (call : AppCall) (ids : List ℕ) (s s' : List Entry) (o o' : Placed) → Shared (CallDoes lane line call) ids s o (Ok promise) s' o' → AddsOne (Call lane line call) s o s' o'
-by_call lane line promise call ids s s' o o' x = adds_one (CallDoes lane line call) (Ok promise) ids s s' o o' (Call lane line call) x x.does.ok
-
-pub by_feed : (line : ℕ) (given : Option Fragment) (ids : List ℕ) (s s' : List Entry) (o o' : Placed) → Shared (FeedDoes line given) ids s o (Ok tt) s' o' → AddsOne (Feed line given) s o s' o'
-by_feed line given ids s s' o o' x = adds_one (FeedDoes line given) (Ok tt) ids s s' o o' (Feed line given) x x.does.ok
-
-pub by_tick : (line moment : ℕ) (ids : List ℕ) (s s' : List Entry) (o o' : Placed) → Shared (TickDoes line moment) ids s o (Ok tt) s' o' → AddsOne (Tick line moment) s o s' o'
-by_tick line moment ids s s' o o' x = adds_one (TickDoes line moment) (Ok tt) ids s s' o o' (Tick line moment) x x.does.ok
+pub by_tick : (r : Result (Unit {0}) AllocError) (line moment : ℕ) (ids : List ℕ) (s s' : List Entry) (o o' : Placed) → Shared (TickDoes line moment) ids s o r s' o' → OnOk r (AddsOne (Tick line moment) s o s' o')
+by_tick (Ok u) line moment ids s s' o o' x = adds_one (TickDoes line moment) (Ok u) ids s s' o o' (Tick line moment) x x.does.ok
+by_tick (Err e) line moment ids s s' o o' x = tt
 
 pub by_job : (r : Result (Unit {0}) StepFault) (ids : List ℕ) (s s' : List Entry) (o o' : Placed) → Shared JobDoes ids s o r s' o' → Steps s o s' o'
 by_job (Ok u) ids s s' o o' x = takes_one JobDoes (Ok u) ids s s' o o' Job x x.does.ok tt (λ h. h)
@@ -101,6 +90,10 @@ by_pass_clear (Err f) ids s s' o o' x = takes_none PassClearDoes (Err f) ids s s
 pub by_wait : (r : Result ℕ NotWaiting) (ids : List ℕ) (s s' : List Entry) (o o' : Placed) → Shared WaitDoes ids s o r s' o' → Steps s o s' o'
 by_wait (Ok t) ids s s' o o' x = takes_one WaitDoes (Ok t) ids s s' o o' (WaitForKey t) x x.does.ok tt (λ h. h)
 by_wait (Err f) ids s s' o o' x = takes_none WaitDoes (Err f) ids s s' o o' x x.does.err
+
+-- a settle that was refused
+pub by_refusal : (line : ℕ) (f : SettleFault) (ids : List ℕ) (s s' : List Entry) (o o' : Placed) → Shared (SettleDoes line) ids s o (Err f) s' o' → Steps s o s' o'
+by_refusal line f ids s s' o o' x = takes_none (SettleDoes line) (Err f) ids s s' o o' x x.does.err
 
 -- a claim of worker 0, and its delivery
 pub by_claim : (c : Held) (clear : List ℕ) (d : Delivered) (ids : List ℕ) (s s1 s2 : List Entry) (o o1 o2 : Placed) → DeskAdds (IsClaim c) s o s1 o1 → c.worker ≡ 0 → c.place ≡ length s1 → Shared (DeliverDoes c.place clear) ids s1 o1 d s2 o2 → Steps s o s2 o2
@@ -141,13 +134,13 @@ unfolding world
 world_settled ids h line = fold-append after_entry (empty_world ids) h (Settle line ∷ [])
 
 -- steps, and then a settle
-pub settled_after : (line : ℕ) (ids : List ℕ) (s s1 s2 : List Entry) (o o1 o2 : Placed) → Steps s o s1 o1 → Shared (SettleDoes line) ids s1 o1 (Ok tt) s2 o2 → Settles line ids s o s2 o2
-settled_after line ids s s1 s2 o o1 o2 a x =
+pub settled_after : (line : ℕ) (u : Unit {0}) (ids : List ℕ) (s s1 s2 : List Entry) (o o1 o2 : Placed) → Steps s o s1 o1 → Shared (SettleDoes line) ids s1 o1 (Ok u) s2 o2 → Settles line ids s o s2 o2
+settled_after line u ids s s1 s2 o o1 o2 a x =
     let e : ℕ × Entry = (length s2, Settle line) in
-    let own2 : o2 ≡ o1 ++ e ∷ [] = one_added (SettleDoes line) (Ok tt) ids s1 s2 o1 o2 (Settle line) x x.does.ok in
+    let own2 : o2 ≡ o1 ++ e ∷ [] = one_added (SettleDoes line) (Ok u) ids s1 s2 o1 o2 (Settle line) x x.does.ok in
     let last : s2 ≡ x.before ++ Settle line ∷ [] = ap (λ (r : Run). r.history) x.does.ok in record {
       goes = record {
-        later = prefix_trans s s1 s2 a.later (later_of (SettleDoes line) ids s1 o1 (Ok tt) s2 o2 x);
+        later = prefix_trans s s1 s2 a.later (later_of (SettleDoes line) ids s1 o1 (Ok u) s2 o2 x);
         steps = a.news;
         place = length s2;
         own = own2 ∙ (ap (λ (z : Placed). z ++ e ∷ []) a.own ∙ append_assoc o a.news (e ∷ []));
@@ -165,3 +158,7 @@ on_ok (Err e) x = tt
 pub took_both_if : {A E : Type 0} (r : Result A E) (s s1 s2 : List Entry) (o o1 o2 : Placed) → Steps s o s1 o1 → OnOk r (Steps s1 o1 s2 o2) → OnOk r (Steps s o s2 o2)
 took_both_if (Ok x) s s1 s2 o o1 o2 a b = took_both s s1 s2 o o1 o2 a b
 took_both_if (Err e) s s1 s2 o o1 o2 a b = tt
+
+pub just_one_if : {A E : Type 0} (r : Result A E) (e e' : Entry) (s s' : List Entry) (o o' : Placed) → e ≡ e' → OnOk r (AddsOne e s o s' o') → OnOk r (StepsAnd e' s o s' o')
+just_one_if (Ok x) e e' s s' o o' is a = subst (λ (z : Entry). StepsAnd z s o s' o') is (just_one e s s' o o' a)
+just_one_if (Err f) e e' s s' o o' is a = tt

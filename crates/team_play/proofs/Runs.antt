@@ -1,5 +1,5 @@
 -- How far a lane has come.
-use Rattle.std.proofs.Common.{◌≡◌, ◌≢◌, ℕ, ◌+◌, ◌<◌, List, [], ◌∷◌, ◌++◌, Option, Some, length, take, drop, refl, ap, sym, subst, ◌∙◌, append_assoc, append-nil}
+use Rattle.std.proofs.Common.{◌≡◌, ◌≢◌, ℕ, ◌+◌, ◌<◌, List, [], ◌∷◌, ◌++◌, Some, Ok, length, take, drop, refl, ap, sym, subst, ◌∙◌, append_assoc}
 use Rattle.std.specs.Prelude.{slice_get}
 use mathlib.Core.List.{IsPrefix}
 use Rattle.eme_types.specs.Fed.{IsFed}
@@ -13,6 +13,7 @@ use Rattle.script_lang.specs.declared.script.Action.{Action}
 use Rattle.script_lang.specs.declared.script.Action.TheVariants.{Ask, Feed as FeedAction, Clock, Settle as SettleAction}
 use Rattle.script_lang.specs.Script.{IsScript}
 use Rattle.cdm_state.specs.Run.{Run}
+use Rattle.cdm_state.specs.Does.{SettleDoes}
 use Rattle.cdm_state.specs.History.{world, AtRest, MayFeedNext}
 use Rattle.book_lock.specs.declared.book.Book.{Ghosts}
 use Rattle.book_lock.specs.declared.pass.Pass.{Pass}
@@ -21,14 +22,22 @@ use Rattle.decrypt_workers.specs.Desks.{Placed}
 use Rattle.decrypt_workers.proofs.Works.{prefix_trans}
 use Rattle.shared_cdm.specs.declared.shared.SharedCdm.{SharedCdm}
 use Rattle.shared_cdm.specs.Own.{entries}
+use Rattle.shared_cdm.specs.Shared.{Shared}
 use Rattle.shared_cdm.specs.Passes.{IsOf, seen, own, tracks_of}
 use Rattle.play_parts.specs.Asks.{entry_of, left_by}
 use Rattle.play_parts.specs.Parts.{AreFed, HasLed, HasCalled, HasFollowed}
 use Rattle.play_parts.proofs.Feeding.{may_feed}
 use Rattle.play_parts.proofs.Lines.{led_none, led_other, led_line, led_clock, called_none, called_other, called_line}
 use Rattle.play_parts.proofs.Behind.{followed_first, followed_more, followed_fed}
-use Rattle.team_play.specs.Adds.{AddsOne, StepsAnd, Settles, MayLead, Stays}
+use Rattle.team_play.specs.Adds.{AddsOne, Steps, StepsAnd, Settles, MayLead, Stays}
+use Rattle.team_play.proofs.Added.{settled_after}
 use Rattle.team_play.proofs.Stays.{stays_self, stays_trans}
+
+-- ---- a settle
+
+pub settled_now : {g : Ghosts Run Entry} (shared : SharedCdm) (line : ℕ) (u : Unit {0}) (p q r : Pass Run Entry g) → Stays shared p q → Steps (seen p) (own p) (seen q) (own q) → Shared (SettleDoes line) (tracks_of q) (seen q) (own q) (Ok u) (seen r) (own r) → Settles line (tracks_of p) (seen p) (own p) (seen r) (own r)
+settled_now shared line u p q r stays steps x =
+    subst (λ (ids : List ℕ). Settles line ids (seen p) (own p) (seen r) (own r)) stays.tracks (settled_after line u (tracks_of q) (seen p) (seen q) (seen r) (own p) (own q) (own r) steps x)
 
 -- ---- a lane other than lane 0
 

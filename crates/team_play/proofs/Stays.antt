@@ -1,5 +1,5 @@
 -- What every pass keeps, call after call.
-use Rattle.std.proofs.Common.{◌≡◌, refl, ◌∙◌}
+use Rattle.std.proofs.Common.{refl, ◌∙◌}
 use Rattle.eme_types.specs.declared.entry.Entry.{Entry}
 use Rattle.cdm_state.specs.Run.{Run}
 use Rattle.book_lock.specs.declared.book.Book.{Ghosts}

@@ -1,4 +1,3 @@
-use Rattle.std.proofs.Common.{rules}
 use Rattle.decrypt_workers.proofs.Works.{prefix_trans}
 use Rattle.cdm_state.specs.Does.{ClaimDoes, DeliverDoes}
 use Rattle.shared_cdm.proofs.Held.{claim_given, later_of}
