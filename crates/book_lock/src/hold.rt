@@ -62,6 +62,7 @@ impl<'a, B: Book> Hold<'a, B> {
         let None = was else { unreachable!() };
         lock.table.shared.fetch_add::<Count>(&mut seat, 2, 1);
         lock.table.shared.fetch_add::<Serve>(&mut seat, 1, 1);
+        lock.door.leave();
         Pass { seat }
     }
 
@@ -84,6 +85,7 @@ impl<'a, B: Book> Hold<'a, B> {
         let was = lock.table.shared.exchange(&mut seat, 0, Some(book));
         let None = was else { unreachable!() };
         lock.table.shared.fetch_add::<Serve>(&mut seat, 1, 1);
+        lock.door.leave();
         Pass { seat }
     }
 }

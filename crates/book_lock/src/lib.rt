@@ -2,6 +2,7 @@
 #![tactic(auto)]
 
 mod book;
+mod door;
 mod hold;
 mod lock;
 mod pass;

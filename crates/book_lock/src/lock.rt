@@ -2,6 +2,7 @@
 ghost use Rattle.std.specs.Prelude.{◌≡◌, [], ◌∷◌, Some};
 
 use crate::book::Book;
+use crate::door::Door;
 use crate::hold::{Hold, InTurn};
 use crate::pass::Pass;
 use crate::rule::{Cut, Draw, Glue, Law, Learn, Look};
@@ -17,6 +18,7 @@ use std::thread;
 #[derive(Drop)]
 pub struct BookLock<B: Book> {
     pub(crate) table: Table<Option<B>, View<B::Entry>, Snapshot<B>, Law<B>, Global>,
+    pub(crate) door: Door,
     ghost sized: { (table.shared.table_id.words ≡ 3) × (table.shared.table_id.slots ≡ 1) },
 }
 
@@ -82,7 +84,10 @@ impl<B: Book> BookLock<B> {
         };
         slots.push_reserved(Some(book));
         match Table::new(alloc, &[ticket, ticket, 0], slots, &about) {
-            Ok((table, seat)) => Ok((BookLock { table }, Pass { seat })),
+            Ok((table, seat)) => {
+                let door = Door::new();
+                Ok((BookLock { table, door }, Pass { seat }))
+            }
             Err(refused) => Err(NewBack {
                 book: only(refused.slots),
                 error: AllocError,
@@ -137,6 +142,7 @@ impl<B: Book> BookLock<B> {
         ensures fixed { B.fixed result.book ≡ fixed_of pass }
         ensures still_fixed { hold_fixed B.fixed result ≡ fixed_of pass }
     {
+        self.door.enter(rt);
         let mut seat = pass.into_seat();
         let ticket = self.table.shared.fetch_add::<Draw>(&mut seat, 0, 1);
         for _ in rt.forever() {
@@ -167,7 +173,7 @@ impl<B: Book> BookLock<B> {
         ensures fixed { IfOk result (λ b. B.fixed b ≡ fixed_of pass) }
         ensures back { IfErr result (λ e. (e.lock ≡ self) × (e.pass ≡ pass)) }
     {
-        let BookLock { table } = self;
+        let BookLock { table, door: _ } = self;
         let seat = pass.into_seat();
         let mut closed = table.close_with(seat);
         let slot = closed.take(0);

@@ -50,7 +50,7 @@ use Rattle.frag_boxes.specs.Moof.{GivesBox, fault_at, header_fault, span, traf_b
 use Rattle.frag_boxes.specs.Table.{is, behind, somes, entry_box, sinf_part, sinfs_at, protected_at, entry_as, entry_at, enough, entries_in, entries_at, stsd_at, stbl_box, stbl_part_as, stbl_part_at, stsd_seen, entries_of, groups, or_nothing, stbl_at, or_none, minf_at, mdia_at}
 use Rattle.frag_boxes.specs.Moov.{Seen, tkhd_at, trak_box, trak_part_as, trak_part_at, saw, ids, tables, track, track_from, trak_at, mvex_at, with_trex, moov_box, moov_part_as, moov_part_at, with_track, tracks_of, moov_psshs, trexes_of, moov_at}
 use Rattle.frag_boxes.specs.Counts.{count_of, entry_items, track_items, movie_items, run_items, traf_items, moof_items}
-use Rattle.frag_boxes.proofs.Taking.{then_ok, not_else, body_len, walk_took, total, Small, each_small, all_small, some_size}
+use Rattle.frag_boxes.proofs.Taking.{then_ok, not_else, body_len, walk_took, total, counted_total, Small, each_small, all_small, some_size}
 
 -- ---- a run
 
@@ -151,10 +151,6 @@ entry_size e = 1 + entry_items e
 entry_small : Small entry_size (λ (none : Unit {0}) b. entry_at b)
 entry_small none b e h = let few = entry_few_as (entry_box b.kind) b e h in omega (arith, few)
 
-counted_total : {A : Type 0} (inner : A → ℕ) (xs : List A) → count_of inner xs ≡ total (λ x. 1 + inner x) xs
-counted_total inner [] = refl
-counted_total inner (x ∷ xs) = omega (arith, counted_total inner xs)
-
 take_took : (n : ℕ) (bs : List Found) → count_of body_len (take n bs) ≤ count_of body_len bs
 take_took zero bs = omega arith
 take_took (suc n) [] = omega arith
@@ -189,7 +185,7 @@ stbl_size (stbl_part.Entries es) = count_of entry_items es
 stbl_size (stbl_part.Group x) = 1
 stbl_size stbl_part.Other = 0
 
-same_size : {A : Type 0} (size : A → ℕ) (x y : A) (n : ℕ) → size x ≤ n → x ≡ y → size y ≤ n
+pub same_size : {A : Type 0} (size : A → ℕ) (x y : A) (n : ℕ) → size x ≤ n → x ≡ y → size y ≤ n
 same_size {A = A} size x y n le e = subst (λ (z : A). size z ≤ n) e le
 
 stbl_small_as : (k : StblBox) (seen : Bool) (b : Found) (p : StblPart) → stbl_part_as k seen b ≡ Ok p → stbl_size p ≤ 1 + length b.body

@@ -6,3 +6,4 @@ pub mod Few
 pub mod Distinct
 pub mod Tracks
 pub mod Inside
+pub mod Extents

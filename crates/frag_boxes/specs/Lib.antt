@@ -6,3 +6,4 @@ pub mod Moov
 pub mod Counts
 pub mod Tracks
 pub mod Places
+pub mod Extents

@@ -7,6 +7,7 @@ ghost use Rattle.frag_boxes.specs.Fields.{tfhd_fields, trun_fields};
 ghost use Rattle.frag_boxes.specs.Moof.{GivesBox, fault_at, span, part_at, span_if, traf_at, moof_part_at, moof_at};
 ghost use Rattle.frag_boxes.specs.Places.{MoofLies};
 ghost use Rattle.frag_boxes.specs.Counts.{moof_items};
+ghost use Rattle.frag_boxes.specs.Extents.{moof_bytes};
 ghost use Rattle.frag_boxes.specs.Gathering.{nothing, added, moof_added};
 
 use crate::fault::{FragFault, FragKind};
@@ -231,7 +232,7 @@ fn moof_of(alloc: Global, at: &BoxRef<'_>) -> Result<Moof, FragFault>
 
 /// Reads a movie fragment, whose type is not looked at. Boxes that no record names are passed over, and so is what stands behind the
 /// fields of a box. The condition is that the place behind the box is a `u64`.
-#[tactic(auto, using(crate::proofs::Few::few_in_fragment, crate::proofs::Inside::fragment_lies))]
+#[tactic(auto, using(crate::proofs::Few::few_in_fragment, crate::proofs::Inside::fragment_lies, crate::proofs::Extents::fragment_takes))]
 pub fn read_moof(alloc: Global, at: &BoxRef<'_>) -> Result<Moof, FragFault>
     requires { at.now.body_place + length at.now.body.now < 2 ^ 64 }
     ensures exact { GivesBox result (moof_at (found at.now)) }
@@ -241,6 +242,9 @@ pub fn read_moof(alloc: Global, at: &BoxRef<'_>) -> Result<Moof, FragFault>
 
     // its spans
     ensures inside { IfOk result (MoofLies (found at.now)) }
+
+    // what initialization data and auxiliary data are read from
+    ensures extents { IfOk result (λ moof. moof_bytes moof ≤ length at.now.body.now) }
 {
     moof_of(alloc, at)
 }

@@ -6,6 +6,7 @@ ghost use Rattle.frag_boxes.specs.Moov.{among, Seen, moov_box, trak_box, tkhd_at
 ghost use Rattle.frag_boxes.specs.Tracks.{HasTracks};
 ghost use Rattle.frag_boxes.specs.Places.{MovieLies};
 ghost use Rattle.frag_boxes.specs.Counts.{movie_items};
+ghost use Rattle.frag_boxes.specs.Extents.{movie_bytes};
 ghost use Rattle.frag_boxes.specs.Gathering.{trak_added, moov_added, trex_added, whole_moov};
 
 use crate::fault::{FragFault, FragKind};
@@ -366,7 +367,7 @@ fn moov_of(alloc: Global, at: &BoxRef<'_>) -> Result<Movie, FragFault>
 
 /// Reads a movie, whose type is not looked at. Of several `tkhd`, `mdia`, `minf`, `stbl` or `stsd` in one box the first is read, and
 /// the others are passed over. The condition is that the place behind the box is a `u64`.
-#[tactic(auto, using(crate::proofs::Few::few_in_movie, crate::proofs::Inside::movie_lies, crate::proofs::Tracks::tracks_in_movie))]
+#[tactic(auto, using(crate::proofs::Few::few_in_movie, crate::proofs::Inside::movie_lies, crate::proofs::Extents::movie_takes, crate::proofs::Tracks::tracks_in_movie))]
 pub fn read_moov(alloc: Global, at: &BoxRef<'_>) -> Result<Movie, FragFault>
     requires { at.now.body_place + length at.now.body.now < 2 ^ 64 }
     ensures exact { GivesBox result (moov_at (found at.now)) }
@@ -376,6 +377,9 @@ pub fn read_moov(alloc: Global, at: &BoxRef<'_>) -> Result<Movie, FragFault>
 
     // its spans
     ensures inside { IfOk result (MovieLies (found at.now)) }
+
+    // what initialization data is read from
+    ensures extents { IfOk result (λ movie. movie_bytes movie ≤ length at.now.body.now) }
     ensures tracks { IfOk result (λ movie. HasTracks movie) }
 {
     moov_of(alloc, at)

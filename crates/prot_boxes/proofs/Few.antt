@@ -182,10 +182,10 @@ unfolding counted_subs
 subs_take true = field_then length (number Short w16) _ u16_takes (λ n. repeated_takes n sub sub_takes)
 subs_take false = yield_takes length [] refl
 
-abbrev item_size : SencItem → ℕ
+abbrev pub item_size : SencItem → ℕ
 item_size i = length i.subs
 
-senc_item_takes : (flag2 : Bool) (size : ℕ) → Bounded item_size (senc_item flag2 size)
+pub senc_item_takes : (flag2 : Bool) (size : ℕ) → Bounded item_size (senc_item flag2 size)
 unfolding senc_item
 senc_item_takes flag2 size = field_then item_size (iv_fields size) _ (iv_takes size) (λ iv. named_takes length item_size (subs_if flag2) _ (subs_take flag2) (λ xs. refl))
 

@@ -10,3 +10,5 @@ pub mod Following
 pub mod Parts
 pub mod Joining
 pub mod Within
+pub mod Bounds
+pub mod FewSubs

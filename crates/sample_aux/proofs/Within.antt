@@ -146,7 +146,7 @@ runs_left end default base l (run ∷ runs) x e =
 short_take : (n : ℕ) (xs : List ℕ) → length (take n xs) ≤ n
 short_take n xs = omega (arith, length-take n xs)
 
-part_short : (file : List ℕ) (place len : ℕ) → length (part_of file place len) ≤ len
+pub part_short : (file : List ℕ) (place len : ℕ) → length (part_of file place len) ≤ len
 part_short file place len = short_take len (drop place file)
 
 sample_short : (file : List ℕ) (place : ℕ) (range : SampleRange) (rule : Option SampleProtection) (item : SencItem) (x : EncSample) → sample_at file place range rule item ≡ Ok x → length x.bytes ≤ range.size

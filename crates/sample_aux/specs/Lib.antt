@@ -9,3 +9,4 @@ pub mod Counting
 pub mod Auxiliary
 pub mod Inits
 pub mod Resolve
+pub mod Bounds

@@ -1,8 +1,11 @@
 // A movie fragment resolved.
-ghost use Rattle.std.specs.Prelude.{◌≡◌, ◌^◌, ◌≤◌, ◌++◌, [], ◌∷◌, filter, IfOk, OnOk, IsTrue};
+ghost use Rattle.std.specs.Prelude.{◌≡◌, ◌^◌, ◌≤◌, ◌++◌, length, [], ◌∷◌, filter, IfOk, OnOk, IsTrue};
+ghost use Rattle.std.specs.List.{sum_by};
 ghost use Rattle.std.specs.Option.{option_map};
 ghost use Rattle.eme_types.specs.Fed.{has_samples, are_known, is_joined, are_well_formed, fragment_samples, fragment_bytes};
+ghost use Rattle.frag_boxes.specs.Extents.{span_bytes};
 ghost use Rattle.frag_boxes.specs.Tracks.{track_ids};
+ghost use Rattle.sample_aux.specs.Bounds.{fragment_init_bytes, FragmentHasFewSubs};
 ghost use Rattle.sample_aux.specs.Faults.{Gives};
 ghost use Rattle.sample_aux.specs.Near.{IsNear, EndsNear};
 ghost use Rattle.sample_aux.specs.Resolve.{track_with, entry_with, traf_resolved, trafs_resolved, met, put_part, put_left, all_joined, fragment_of, known_resolved, resolved};
@@ -210,6 +213,11 @@ pub fn resolve(
     ensures formed { IfOk result (λ x. IsTrue (are_well_formed x)) }
     ensures samples { IfOk result (λ x. fragment_samples x ≤ room.samples) }
     ensures bytes { IfOk result (λ x. fragment_bytes x ≤ room.bytes) }
+    ensures inits { IfOk result (λ x. length x.inits ≤ 1) }
+
+    // no more than the boxes have
+    ensures init_bytes { IfOk result (λ x. fragment_init_bytes x ≤ sum_by span_bytes moof.now.psshs) }
+    ensures subs { IfOk result (FragmentHasFewSubs (length file.now)) }
 {
     let known = known_protection(alloc, file, movie)?;
     resolve_known(alloc, file, &known, moof, room)
@@ -229,6 +237,11 @@ pub fn resolve_known(
     ensures formed { IfOk result (λ x. IsTrue (are_well_formed x)) }
     ensures samples { IfOk result (λ x. fragment_samples x ≤ room.samples) }
     ensures bytes { IfOk result (λ x. fragment_bytes x ≤ room.bytes) }
+    ensures inits { IfOk result (λ x. length x.inits ≤ 1) }
+
+    // no more than the boxes have
+    ensures init_bytes { IfOk result (λ x. fragment_init_bytes x ≤ sum_by span_bytes moof.now.psshs) }
+    ensures subs { IfOk result (FragmentHasFewSubs (length file.now)) }
 {
     resolve_all(alloc, file, known, moof, room)
 }

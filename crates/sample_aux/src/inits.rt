@@ -1,6 +1,8 @@
 // Initialization data.
-ghost use Rattle.std.specs.Prelude.{◌≡◌, ◌++◌, IfOk, OnOk};
-ghost use Rattle.std.specs.List.{flat_map};
+ghost use Rattle.std.specs.Prelude.{◌≡◌, ◌++◌, ◌≤◌, length, IfOk, OnOk};
+ghost use Rattle.std.specs.List.{flat_map, sum_by};
+ghost use Rattle.frag_boxes.specs.Extents.{span_bytes};
+ghost use Rattle.sample_aux.specs.Bounds.{init_bytes};
 ghost use Rattle.sample_aux.specs.Spans.{box_bytes};
 ghost use Rattle.sample_aux.specs.Inits.{inits_of};
 
@@ -28,10 +30,8 @@ fn pssh_bytes(alloc: Global, file: &[u8], spans: &[Span]) -> Result<Bytes, Alloc
     Ok(bytes)
 }
 
-/// The initialization data of the `pssh` boxes of a `moov` or a `moof` that stands in `file`: one of the type `cenc`, the whole
-/// boxes one behind the other (ISO/IEC 23001-7 section 8.1; Encrypted Media Extensions Initialization Data Format Registry,
-/// "cenc"), or none where there is no box.
-pub fn init_data_of(alloc: Global, file: &[u8], psshs: &[Span]) -> Result<Inits, AllocError>
+/// What `init_data_of` makes, by its definition alone.
+fn init_of(alloc: Global, file: &[u8], psshs: &[Span]) -> Result<Inits, AllocError>
     ensures { IfOk result (λ x. x ≡ inits_of file.now psshs.now) }
 {
     let mut inits = Items::new(alloc);
@@ -43,4 +43,17 @@ pub fn init_data_of(alloc: Global, file: &[u8], psshs: &[Span]) -> Result<Inits,
         })?;
     }
     Ok(inits)
+}
+
+/// The initialization data of the `pssh` boxes of a `moov` or a `moof` that stands in `file`: one of the type `cenc`, the whole
+/// boxes one behind the other (ISO/IEC 23001-7 section 8.1; Encrypted Media Extensions Initialization Data Format Registry,
+/// "cenc"), or none where there is no box.
+pub fn init_data_of(alloc: Global, file: &[u8], psshs: &[Span]) -> Result<Inits, AllocError>
+    ensures exact { IfOk result (λ x. x ≡ inits_of file.now psshs.now) }
+    ensures few { IfOk result (λ x. length x ≤ 1) }
+
+    // no more than the boxes have
+    ensures bytes { IfOk result (λ x. sum_by init_bytes x ≤ sum_by span_bytes psshs.now) }
+{
+    init_of(alloc, file, psshs)
 }

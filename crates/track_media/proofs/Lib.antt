@@ -4,3 +4,4 @@ pub mod SectionLemmas
 pub mod Standing
 pub mod Sound
 pub mod TopBoxes
+pub mod Held

@@ -1,6 +1,6 @@
 -- What is gathered of lines that are not refused may be fed.
 use Rattle.std.proofs.Common.{◌≡◌, ℕ, ◌+◌, ◌≤◌, inl, inr, eq-eqb, lit≤, List, [], ◌∷◌, ◌++◌, Bool, true, false, refl, ap, sym, ◌∙◌, map, filter, length, arith, length-append, subst}
-use Rattle.std.specs.Prelude.{◌==◌, ◌||◌, not, ◌&&◌}
+use Rattle.std.specs.Prelude.{◌==◌, not, ◌&&◌}
 use Rattle.std.specs.List.{list_all, sum_by}
 use Rattle.std.proofs.lemmas.List.Sums.{sum_by-cons, sum_by_push}
 use Rattle.std.proofs.lemmas.Bool.{and_parts, eqb-true, cases_Bool, or_parts, or_right, and_from}

@@ -1,6 +1,6 @@
 -- What is gathered after some lines is what the lines are.
 use Rattle.std.proofs.Common.{◌≡◌, ℕ, ◌+◌, ◌-◌, inl, inr, List, [], ◌∷◌, ◌++◌, Bool, true, false, refl, ap, sym, ◌∙◌, map, filter, length, arith, length-append, subst, eq-eqb}
-use Rattle.std.specs.Prelude.{Result, Ok, Err, ◌==◌, ◌||◌, not, ◌&&◌}
+use Rattle.std.specs.Prelude.{Result, Ok, Err, ◌==◌, ◌||◌, not}
 use Rattle.std.specs.List.{list_any, sum_by}
 use Rattle.std.proofs.lemmas.List.{append-nil}
 use Rattle.std.proofs.lemmas.List.Sums.{sum_by-append}

@@ -7,3 +7,4 @@ pub mod FileParts
 pub mod File
 pub mod Views
 pub mod Gathering
+pub mod Held

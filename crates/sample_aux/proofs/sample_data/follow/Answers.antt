@@ -1,4 +1,4 @@
-use Rattle.std.proofs.Common.{◌≡◌, ◌<◌, arith, rules}
+use Rattle.std.proofs.Common.{◌<◌, arith, rules}
 use Rattle.sample_aux.proofs.Following.{one_more, finished, near_more}
 use Rattle.sample_aux.proofs.sample_data.follow.Goals as goal
 
