@@ -11,7 +11,8 @@ use Rattle.cdm_state.specs.Moment.{tick_to}
 use Rattle.output_order.specs.Lane.{line_of, asked, fed_by}
 use Rattle.output_order.specs.Staffed.{gives_up}
 use Rattle.player_core.specs.Alone.{LastAsked}
-use Rattle.player_core.specs.Course.{IsStep, IsOfOneThread, Goes}
+use Rattle.play_parts.specs.Asks.{IsStep, IsOfLanes}
+use Rattle.player_core.specs.Course.{Goes}
 use Rattle.player_core.proofs.Turns.{last_asked}
 use Rattle.player_core.proofs.Steps.{all_append}
 
@@ -100,7 +101,7 @@ step_ticks n (PassClear track index) s = refl
 step_ticks n (WaitForKey track) s = refl
 step_ticks n (Settle line) s = absurd s
 
-step_alone : (e : Entry) → IsStep e → IsOfOneThread e
+step_alone : (e : Entry) → IsStep e → IsOfLanes e
 step_alone (Call lane line call) s = absurd s
 step_alone Job s = tt
 step_alone Task s = tt
@@ -126,7 +127,7 @@ ticks_none : (n : ℕ) (es : List Entry) → AllByRecursion IsStep es → fold t
 ticks_none n [] s = refl
 ticks_none n (e ∷ es) s = ap (λ m. fold tick_to m es) (step_ticks n e s.0) ∙ ticks_none n es s.1
 
-alone_steps : (es : List Entry) → AllByRecursion IsStep es → AllByRecursion IsOfOneThread es
+alone_steps : (es : List Entry) → AllByRecursion IsStep es → AllByRecursion IsOfLanes es
 alone_steps [] s = tt
 alone_steps (e ∷ es) s = (step_alone e s.0, alone_steps es s.1)
 
@@ -168,9 +169,9 @@ pub ticks_added : (old new : Run) (e : Entry) → Goes old new e → fold tick_t
 ticks_added old new e g =
     ap (λ h. fold tick_to 0 h) (history_of old new e g) ∙ (fold-append tick_to 0 old.history (g.taken ++ e ∷ []) ∙ (fold-append tick_to (fold tick_to 0 old.history) g.taken (e ∷ []) ∙ ap (λ n. tick_to n e) (ticks_none (fold tick_to 0 old.history) g.taken g.steps)))
 
-pub alone_added : (old new : Run) (e : Entry) → Goes old new e → AllByRecursion IsOfOneThread old.history → IsOfOneThread e → AllByRecursion IsOfOneThread new.history
+pub alone_added : (old new : Run) (e : Entry) → Goes old new e → AllByRecursion IsOfLanes old.history → IsOfLanes e → AllByRecursion IsOfLanes new.history
 alone_added old new e g all one =
-    subst (λ h. AllByRecursion IsOfOneThread h) (sym (history_of old new e g)) (all_append IsOfOneThread old.history (g.taken ++ e ∷ []) all (all_append IsOfOneThread g.taken (e ∷ []) (alone_steps g.taken g.steps) (one, tt)))
+    subst (λ h. AllByRecursion IsOfLanes h) (sym (history_of old new e g)) (all_append IsOfLanes old.history (g.taken ++ e ∷ []) all (all_append IsOfLanes g.taken (e ∷ []) (alone_steps g.taken g.steps) (one, tt)))
 
 -- the entry of a line is the last
 pub last_added : (old new : Run) (e : Entry) → Goes old new e → asked e ≡ e ∷ [] → LastAsked new.history
@@ -197,7 +198,7 @@ feeds_asked [] = refl
 feeds_asked (e ∷ h) =
     flat_map-append fed_by (asked e) (flat_map asked h) ∙ (ap (λ xs. xs ++ flat_map fed_by (flat_map asked h)) (asked_feeds e) ∙ ap (λ xs. fed_by e ++ xs) (feeds_asked h))
 
-none_given_up : (h : List Entry) (worker : ℕ) (e : Entry) → IsOfOneThread e → gives_up h worker e ≡ false
+none_given_up : (h : List Entry) (worker : ℕ) (e : Entry) → IsOfLanes e → gives_up h worker e ≡ false
 none_given_up h worker (Call lane line call) a = refl
 none_given_up h worker Job a = refl
 none_given_up h worker Task a = refl
@@ -211,7 +212,7 @@ none_given_up h worker (PassClear track index) a = refl
 none_given_up h worker (WaitForKey track) a = refl
 none_given_up h worker (Settle line) a = refl
 
-pub no_times_given_up : (h : List Entry) (worker : ℕ) (es : List Entry) → AllByRecursion IsOfOneThread es → count_by (gives_up h worker) es ≡ 0
+pub no_times_given_up : (h : List Entry) (worker : ℕ) (es : List Entry) → AllByRecursion IsOfLanes es → count_by (gives_up h worker) es ≡ 0
 no_times_given_up h worker [] all = refl
 no_times_given_up h worker (e ∷ es) all =
     let tally : Bool → ℕ = λ b. if b then 1 else 0 in

@@ -13,7 +13,7 @@ use Rattle.script_lang.specs.declared.script.Action.TheVariants.{Ask, Feed as Fe
 use Rattle.output_order.specs.Lane.{line_of, asked, fed_by, asked_in}
 use Rattle.output_order.specs.Complete.{IsOfLine, feed_rest, implied}
 use Rattle.player_core.specs.Alone.{IsAlone}
-use Rattle.player_core.specs.Course.{entry_of}
+use Rattle.play_parts.specs.Asks.{entry_of}
 use Rattle.player_core.proofs.Added.{feeds_asked}
 use Rattle.player_core.proofs.Courses.{line_as, line_above}
 

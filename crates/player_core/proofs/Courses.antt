@@ -26,7 +26,8 @@ use Rattle.output_order.specs.Complete.{HasLane, IsOfLine, feed_rest, implied, I
 use Rattle.output_order.specs.Staffed.{NamesWorker, times_given_up, IsStaffed}
 use Rattle.output_order.proofs.Sizes.{taken_more, some_same}
 use Rattle.player_core.specs.Alone.{AreInTurn, IsAlone}
-use Rattle.player_core.specs.Course.{entry_for, entry_of, IsOfOneThread, Goes, Settles, MayGo, left_by, moment_by, moment_of, HasFed, HasGone, HasFollowed}
+use Rattle.play_parts.specs.Asks.{entry_for, entry_of, IsOfLanes, left_by, moment_by, moment_of}
+use Rattle.player_core.specs.Course.{Goes, Settles, MayGo, HasFed, HasGone, HasFollowed}
 use Rattle.player_core.proofs.Steps.{all_append}
 use Rattle.player_core.proofs.Added.{lines_added, asked_added, ticks_added, feeds_asked, no_times_given_up}
 use Rattle.player_core.proofs.Scripts.{both_true, number_above_0, lane_fits_at, moment_fits_at}
@@ -173,7 +174,7 @@ pub followed_more : (script : List Line) (media : Media) (left : List Fragment) 
 followed_more script media [] old mid new some g s followed = absurd (omega (arith, some))
 followed_more script media (f ∷ left) old mid new some g s followed = followed_next script media f left old mid new g s followed
 
-alone_lane : (e : Entry) → IsOfOneThread e → HasLane e
+alone_lane : (e : Entry) → IsOfLanes e → HasLane e
 alone_lane (Call lane line call) a = omega (arith, a)
 alone_lane Job a = tt
 alone_lane Task a = tt
@@ -187,7 +188,7 @@ alone_lane (PassClear track index) a = tt
 alone_lane (WaitForKey track) a = tt
 alone_lane (Settle line) a = tt
 
-alone_worker : (e : Entry) → IsOfOneThread e → NamesWorker 0 e
+alone_worker : (e : Entry) → IsOfLanes e → NamesWorker 0 e
 alone_worker (Call lane line call) a = tt
 alone_worker Job a = tt
 alone_worker Task a = tt
@@ -208,7 +209,7 @@ none_left n xs is = let many = length-drop n xs in let none = ap length is in om
 pub is_complete : (script : List Line) (media : Media) (r : Run) → HasFollowed script media [] r → IsComplete script media r.history
 is_complete script media r followed = record {
   lanes = λ i few. ap (λ lines. lane lines i) followed.lines;
-  known = λ n e at. alone_lane e (all_at IsOfOneThread r.history n e followed.fed.alone at);
+  known = λ n e at. alone_lane e (all_at IsOfLanes r.history n e followed.fed.alone at);
   feeds = record { each = followed.fed.feeds; all = none_left (length (feeds_in r.history)) media.fragments followed.fed.left_ };
   implied = record { lines = followed.before; above = followed.above; is = sym (append-nil (asked_in r.history)) ∙ followed.follows };
   rest = subst (λ ids. AtRest (world ids r.history)) followed.fed.tracks followed.rest;
@@ -225,9 +226,9 @@ is_alone script media r legal followed = record {
 }
 
 -- and one thread has made it
-pub is_staffed : (r : Run) → AllByRecursion IsOfOneThread r.history → IsStaffed 0 r.history
+pub is_staffed : (r : Run) → AllByRecursion IsOfLanes r.history → IsStaffed 0 r.history
 is_staffed r alone = record {
-  named = λ n e at. alone_worker e (all_at IsOfOneThread r.history n e alone at);
+  named = λ n e at. alone_worker e (all_at IsOfLanes r.history n e alone at);
   none_of_0 = no_times_given_up r.history 0 r.history alone;
   one_each = λ worker. let none : times_given_up r.history worker ≡ 0 = no_times_given_up r.history worker r.history alone in omega (arith, none);
 }

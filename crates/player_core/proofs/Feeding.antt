@@ -13,13 +13,14 @@ use Rattle.cdm_state.specs.Run.{Run}
 use Rattle.cdm_state.specs.History.{MayFeedNext, samples_in, bytes_in, fed_samples, fed_bytes, fed_samples_of, fed_bytes_of}
 use Rattle.output_order.specs.Lane.{asked, feeds_in, fed_by}
 use Rattle.output_order.specs.Complete.{FeedsBegun}
-use Rattle.player_core.specs.Course.{IsOfOneThread, Goes, HasFed}
+use Rattle.play_parts.specs.Asks.{IsOfLanes}
+use Rattle.player_core.specs.Course.{Goes, HasFed}
 use Rattle.player_core.proofs.Added.{tracks_kept, feeds_added, samples_added, bytes_added, alone_added, last_added}
 use Rattle.player_core.proofs.Scripts.{all_true_at}
 use Rattle.player_core.proofs.Steps.{push_cases}
 
 -- an entry that feeds nothing
-pub fed_kept : (media : Media) (left : List Fragment) (old new : Run) (e : Entry) → Goes old new e → fed_by e ≡ [] → fed_samples_of e ≡ 0 → fed_bytes_of e ≡ 0 → asked e ≡ e ∷ [] → IsOfOneThread e → HasFed media left old → HasFed media left new
+pub fed_kept : (media : Media) (left : List Fragment) (old new : Run) (e : Entry) → Goes old new e → fed_by e ≡ [] → fed_samples_of e ≡ 0 → fed_bytes_of e ≡ 0 → asked e ≡ e ∷ [] → IsOfLanes e → HasFed media left old → HasFed media left new
 fed_kept media left old new e g feeds samples bytes is alone fed =
     let same : feeds_in new.history ≡ feeds_in old.history = feeds_added old new e g ∙ (ap (λ xs. feeds_in old.history ++ xs) feeds ∙ append-nil (feeds_in old.history)) in
     let samples_are : fed_samples new.history ≡ fed_samples old.history + fed_samples_of e = samples_added old new e g in

@@ -13,3 +13,4 @@ pub mod LiveClaims
 pub mod Queued
 pub mod Weights
 pub mod Lowers
+pub mod Plays

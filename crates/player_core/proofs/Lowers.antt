@@ -35,7 +35,8 @@ use Rattle.cdm_state.proofs.Claiming.{pick_holds}
 use Rattle.cdm_state.proofs.TrackIds.{state_id, world_ids, or_right}
 use Rattle.cdm_state.proofs.TrackLists.{same_yes}
 use Rattle.output_order.proofs.Sizes.{something_at, some_same}
-use Rattle.player_core.specs.Course.{IsStep, Moves}
+use Rattle.play_parts.specs.Asks.{IsStep}
+use Rattle.player_core.specs.Course.{Moves}
 use Rattle.player_core.specs.Left.{ends_claim, claim_under, stays, claims_after, live_claims, queue_weight, awake_weight, samples_left, many_left, weigh, sample_weight, left_with, work_left}
 use Rattle.player_core.proofs.LiveClaims.{claims_more, all_live, OnSample, unclaimed, claimed_kept}
 use Rattle.player_core.proofs.Queued.{job_falls, woken, task_falls, event_queued}

@@ -5,7 +5,7 @@ use Rattle.std.specs.Prelude.{nat_lt}
 use Rattle.std.proofs.lemmas.Bool.{ltb-true}
 use Rattle.script_lang.specs.declared.script.Line.{Line}
 use Rattle.script_lang.specs.Script.{numbers_rise, lane_fits, moment_fits, moment_after, moments_rise, IsScript}
-use Rattle.player_core.specs.Course.{moment_by, moment_of}
+use Rattle.play_parts.specs.Asks.{moment_by, moment_of}
 
 pub both_true : (a b : Bool) → IsTrue (a && b) → IsTrue a × IsTrue b
 both_true true true h = (refl, refl)

@@ -16,7 +16,8 @@ use Rattle.cdm_state.specs.History.{world, AtRest, Undelivered, MayClaim, MayPub
 use Rattle.cdm_state.specs.Run.{Run, with_entry}
 use Rattle.cdm_state.specs.Progress.{NoneWaits, NothingToDo}
 use Rattle.player_core.specs.Alone.{LastAsked, InTurn, AreInTurn}
-use Rattle.player_core.specs.Course.{IsStep, more_history, Steps, Moves, Goes, Settles}
+use Rattle.play_parts.specs.Asks.{IsStep}
+use Rattle.player_core.specs.Course.{more_history, Steps, Moves, Goes, Settles}
 use Rattle.player_core.proofs.Turns.{turns_more}
 
 pub all_append : {X : Type 0} (P : X → Type 0) (xs ys : List X) → AllByRecursion P xs → AllByRecursion P ys → AllByRecursion P (xs ++ ys)

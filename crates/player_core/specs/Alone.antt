@@ -1,5 +1,6 @@
 -- The history of a play on one thread: which entry comes after which.
-use Rattle.std.specs.Prelude.{ℕ, ◌≤◌, ◌≡◌, List, [], ◌∷◌, length, take, slice_get, Some}
+use Rattle.std.specs.Prelude.{ℕ, ◌≤◌, ◌≡◌, List, [], ◌∷◌, length, take, slice_get, Some, IsTrue}
+use Rattle.std.specs.List.{list_all}
 use Rattle.eme_types.specs.declared.media.Media.{Media}
 use Rattle.eme_types.specs.declared.entry.Entry.{Entry}
 use Rattle.eme_types.specs.declared.entry.Entry.TheVariants.{Call, Job, Task, Tick, Feed, Claim, Deliver, GiveUp, Publish, PassClear, WaitForKey, Settle}
@@ -7,7 +8,7 @@ use Rattle.script_lang.specs.declared.script.Line.{Line}
 use Rattle.cdm_state.specs.History.{world, IsAt, IsLegal, MayClaim, MayPublish, MayPassClear, MayWait}
 use Rattle.cdm_state.specs.Contract.{ComesFirst}
 use Rattle.cdm_state.specs.Progress.{NoneWaits, NothingToDo}
-use Rattle.output_order.specs.Lane.{asked, lines_in}
+use Rattle.output_order.specs.Lane.{asked, lines_in, is_of_lane}
 use Rattle.output_order.specs.Complete.{IsComplete}
 
 -- no job is queued
@@ -94,6 +95,10 @@ pub record IsAlone (script : List Line) (media : Media) (h : List Entry) : Type 
   pub order : lines_in h ≡ script
   pub turns : AreInTurn media.tracks h
   pub last : LastAsked h
+
+-- every line of the script is of lane 0
+abbrev pub IsOneLane : List Line → Type 0
+IsOneLane script = IsTrue (list_all (is_of_lane 0) script)
 
 -- a script and a media have at most one such history
 abbrev pub IsTheOne : Type 0

@@ -1,49 +1,22 @@
 -- How far a play has come.
 use Rattle.std.specs.Prelude.{ℕ, ◌+◌, ◌≡◌, ◌≤◌, ◌<◌, List, [], ◌∷◌, ◌++◌, length, take, drop, Option, IsTrue}
-use Rattle.std.specs.List.{fold, sum_by, AllByRecursion}
+use Rattle.std.specs.List.{sum_by, AllByRecursion}
 use Rattle.eme_types.specs.declared.media.Fragment.{Fragment}
 use Rattle.eme_types.specs.declared.media.Media.{Media}
 use Rattle.eme_types.specs.declared.entry.Entry.{Entry}
-use Rattle.eme_types.specs.declared.entry.Entry.TheVariants.{Call, Job, Task, Tick, Feed, Claim, Deliver, GiveUp, Publish, PassClear, WaitForKey, Settle}
-use Rattle.eme_types.specs.declared.limits.TheConstants.{MAX_LANES}
+use Rattle.eme_types.specs.declared.entry.Entry.TheVariants.{Settle}
 use Rattle.eme_types.specs.Fed.{IsFed, are_distinct, fragment_samples, fragment_bytes}
 use Rattle.script_lang.specs.declared.script.Line.{Line}
 use Rattle.script_lang.specs.declared.script.Action.{Action}
 use Rattle.script_lang.specs.declared.script.Action.TheVariants.{Ask, Feed as FeedAction, Clock, Settle as SettleAction}
-use Rattle.script_lang.specs.Script.{moment_after}
 use Rattle.cdm_state.specs.Run.{Run}
 use Rattle.cdm_state.specs.History.{world, AtRest, MayFeedNext, fed_samples, fed_bytes}
 use Rattle.cdm_state.specs.Moment.{last_moment}
 use Rattle.cdm_state.specs.Progress.{NoneWaits}
 use Rattle.output_order.specs.Lane.{lines_in, asked_in, feeds_in}
 use Rattle.output_order.specs.Complete.{FeedsBegun, IsOfLine, feed_rest, implied}
+use Rattle.play_parts.specs.Asks.{IsStep, IsOfLanes, moment_of}
 use Rattle.player_core.specs.Alone.{LastAsked, AreInTurn}
-
--- the entry of an action; a feed gives the fragment
-abbrev pub entry_for : ℕ → ℕ → Action → Option Fragment → Entry
-entry_for number lane (Ask call) given = Call lane number call
-entry_for number lane FeedAction given = Feed number given
-entry_for number lane (Clock moment) given = Tick number moment
-entry_for number lane SettleAction given = Settle number
-
--- the entry of a line
-abbrev pub entry_of : Line → Option Fragment → Entry
-entry_of line given = entry_for line.number line.lane line.action given
-
--- a step that is no line's, taken by one thread: its claims name worker 0, and it gives none up
-abbrev pub IsStep : Entry → Type 0
-IsStep (Call lane line call) = ⊥
-IsStep Job = Unit {0}
-IsStep Task = Unit {0}
-IsStep (Tick line moment) = ⊥
-IsStep (Feed line fragment) = ⊥
-IsStep (Claim worker track index session kid) = worker ≡ 0
-IsStep (Deliver place verdict) = Unit {0}
-IsStep (GiveUp place) = ⊥
-IsStep (Publish track index place) = Unit {0}
-IsStep (PassClear track index) = Unit {0}
-IsStep (WaitForKey track) = Unit {0}
-IsStep (Settle line) = ⊥
 
 -- these entries more
 abbrev pub more_history : Run → List Entry → Run
@@ -82,36 +55,6 @@ MayGo r FeedAction given = MayFeedNext r.tracks r.history given
 MayGo r (Clock moment) given = (world r.tracks r.history).machine.moment ≤ moment
 MayGo r SettleAction given = NoneWaits r.history × IsTrue (are_distinct r.tracks)
 
--- the fragments that are left after an action
-abbrev pub left_by : List Fragment → Action → List Fragment
-left_by left (Ask call) = left
-left_by left FeedAction = drop 1 left
-left_by left (Clock moment) = left
-left_by left SettleAction = left
-
--- the moment, one line on
-abbrev pub moment_by : ℕ → Line → ℕ
-moment_by last line = moment_after last line.action
-
--- the moment after these lines
-abbrev pub moment_of : List Line → ℕ
-moment_of lines = fold moment_by 0 lines
-
--- an entry that a play on one thread may have
-abbrev pub IsOfOneThread : Entry → Type 0
-IsOfOneThread (Call lane line call) = lane < MAX_LANES
-IsOfOneThread Job = Unit {0}
-IsOfOneThread Task = Unit {0}
-IsOfOneThread (Tick line moment) = Unit {0}
-IsOfOneThread (Feed line fragment) = Unit {0}
-IsOfOneThread (Claim worker track index session kid) = worker ≡ 0
-IsOfOneThread (Deliver place verdict) = Unit {0}
-IsOfOneThread (GiveUp place) = ⊥
-IsOfOneThread (Publish track index place) = Unit {0}
-IsOfOneThread (PassClear track index) = Unit {0}
-IsOfOneThread (WaitForKey track) = Unit {0}
-IsOfOneThread (Settle line) = Unit {0}
-
 -- what a play has fed: the fragments of the media in order, but for those that are left, and none past the last
 pub record HasFed (media : Media) (left : List Fragment) (r : Run) : Type 0 where
   pub valid : IsFed media
@@ -120,7 +63,7 @@ pub record HasFed (media : Media) (left : List Fragment) (r : Run) : Type 0 wher
   pub left_ : drop (length (feeds_in r.history)) media.fragments ≡ left
   pub samples : fed_samples r.history + sum_by fragment_samples left ≡ sum_by fragment_samples media.fragments
   pub bytes : fed_bytes r.history + sum_by fragment_bytes left ≡ sum_by fragment_bytes media.fragments
-  pub alone : AllByRecursion IsOfOneThread r.history
+  pub alone : AllByRecursion IsOfLanes r.history
   pub delivered : NoneWaits r.history
   pub turns : AreInTurn r.tracks r.history
   pub last : LastAsked r.history

@@ -7,7 +7,8 @@ ghost use Rattle.output_order.specs.Staffed.{IsStaffed};
 ghost use Rattle.cdm_state.specs.Progress.{NoneWaits};
 ghost use Rattle.player_core.specs.Alone.{IsAlone};
 ghost use Rattle.eme_types.specs.declared.media.Media.{Media};
-ghost use Rattle.player_core.specs.Course.{Goes, MayGo, entry_of, left_by, HasGone, HasFollowed};
+ghost use Rattle.play_parts.specs.Asks.{entry_of, left_by};
+ghost use Rattle.player_core.specs.Course.{Goes, MayGo, HasGone, HasFollowed};
 ghost use Rattle.eme_types.specs.declared.entry.Entry.TheVariants.{Feed as FeedEntry};
 
 use crate::settle::settle_all;

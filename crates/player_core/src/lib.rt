@@ -1,4 +1,4 @@
-//! The play on one thread, the text of `inspect`, and the demonstration file.
+//! The play, on one thread and on many; the text of `inspect`, and the demonstration file.
 #![tactic(auto)]
 
 mod alone;
@@ -8,8 +8,10 @@ mod law;
 mod settle;
 #[cfg(test)]
 mod tests;
+mod with_workers;
 
 pub use alone::play_alone;
 pub use demo::{DemoInput, demo_input};
 pub use inspect::inspect_text;
 pub use law::the_alone_history_is_one;
+pub use with_workers::play;

@@ -1,6 +1,7 @@
 // Plays of texts, the text of `inspect`, and the demonstration file. More plays stand in `examples`.
-use crate::{demo_input, inspect_text, play_alone};
+use crate::{demo_input, inspect_text, play, play_alone};
 use cdm_state::Cdm;
+use decrypt_workers::FreeGate;
 use eme_types::Media;
 use output_order::{log_text, summary_text, track_bytes};
 use script_lang::read_script;
@@ -47,6 +48,15 @@ fn a_clear_track_passes_beside_an_opened_one(rt: HostRuntime) -> Result<(), Fail
     let script = read_script(alloc, ONE_SESSION.as_bytes())?;
     let media = parse_media(alloc, TWO_TRACKS.as_bytes())?;
     let cdm = play_alone(alloc, &script, media)?;
+    tells(&rt, alloc, &cdm)
+}
+
+#[test]
+fn one_lane_without_workers_is_played_alone(rt: HostRuntime) -> Result<(), Fail> {
+    let alloc = rt.alloc();
+    let script = read_script(alloc, ONE_SESSION.as_bytes())?;
+    let media = parse_media(alloc, TWO_TRACKS.as_bytes())?;
+    let cdm = play(&rt, alloc, &script, media, 0, &FreeGate)?;
     tells(&rt, alloc, &cdm)
 }
 

@@ -1,1 +1,4 @@
+pub mod Stays
+pub mod Added
+pub mod Runs
 pub mod Teams

@@ -183,7 +183,11 @@ pub fn run_crew<R: Threads + Wait + Sync, G: Gate + Sync>(
             ensures tracks { tracks_of result.0 ≡ media.entry.now.value.tracks }
             ensures parts { IfSome start.entry (λ s. parts result.0 ≡ parts s.pass) }
             ensures over { OnOk result.1 (TeamOver script.entry.now media.entry.now.value below (own_places result.0) (seen result.0)) }
-        { run_crew(rt, alloc, shared, gate, script, media, workers, &mut start, below) },
+        {
+            run_crew(
+                rt, alloc, shared, gate, script, media, workers, &mut start, below,
+            )
+        },
     );
     join_worker(shared, script, media, was, mine, theirs, k)
 }

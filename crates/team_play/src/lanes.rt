@@ -44,11 +44,7 @@ fn has_line(script: &Script, i: u8) -> bool
 }
 
 /// Splits a pass off, for one thread more.
-pub fn split_off(
-    shared: &SharedCdm,
-    media: &Snapshot<Media>,
-    start: Start,
-) -> (Start, Pass<Cdm>)
+pub fn split_off(shared: &SharedCdm, media: &Snapshot<Media>, start: Start) -> (Start, Pass<Cdm>)
     requires begins { Begins shared.now media.now.value start.pass start.left.items }
     requires parts { 1 < parts start.pass }
     ensures begins { Begins shared.now media.now.value result.0.pass result.0.left.items }

@@ -5,6 +5,7 @@ mod crew;
 mod lane;
 mod lanes;
 mod lead;
+mod patience;
 mod steps;
 #[cfg(test)]
 mod tests;

@@ -66,7 +66,9 @@ pub fn many_samples(alloc: Global) -> Result<String, AllocError> {
     let mut text = String::new(alloc);
     text.push_str("SMPL 1\ntrack 1\nfragment\n")?;
     for _ in 0..4096u32 {
-        text.push_str("sample 1 cenc 000102030405060708090a0b0c0d0e0f f0f1f2f3f4f5f6f7f8f9fafbfcfdfeff - 874d6191b620e3261bef6864990db6ce\n")?;
+        text.push_str(
+            "sample 1 cenc 000102030405060708090a0b0c0d0e0f f0f1f2f3f4f5f6f7f8f9fafbfcfdfeff - 874d6191b620e3261bef6864990db6ce\n",
+        )?;
     }
     Ok(text)
 }

@@ -4,7 +4,8 @@ use Rattle.eme_types.specs.declared.media.Fragment.{Fragment}
 use Rattle.eme_types.specs.declared.entry.Entry.{Entry}
 use Rattle.eme_types.specs.declared.entry.Entry.TheVariants.{Call, Tick}
 use Rattle.script_lang.specs.declared.script.Action.{Action}
-use Rattle.player_core.specs.Course.{Goes, entry_of, entry_for}
+use Rattle.play_parts.specs.Asks.{entry_of, entry_for}
+use Rattle.player_core.specs.Course.{Goes}
 use Rattle.player_core.proofs.Steps.{goes_now}
 use Rattle.player_core.proofs.alone.play_line.Goals as goal
 
