@@ -170,6 +170,7 @@ LOGS = [
     ("a clear sample is passed that is not fed", "sample 4 of track 1 is not fed", lambda log: log.move(76, before=74)),
     # waits
     ("a wait while a session has the key", "a session has a usable key for the head of track 1", lambda log: log.add("wait 1", before=68)),
+    ("a wait though a second session has the key", "a session has a usable key for the head of track 1", lambda log: log.add("wait 1", before=34)),
     ("a wait with a live claim on the head", "a live claim is on the head of track 1", lambda log: log.add("wait 1", before=21)),
     ("a wait of a track that waits", "track 1 waits already", lambda log: log.double(58, before=60)),
     ("a wait of a track that has no sample left", "sample 3 of track 1 is not fed", lambda log: log.add("wait 1", before=51)),

@@ -59,7 +59,7 @@ class Checker:
         self.undelivered, self.taken = set(), set()
         self.given_up = collections.Counter()
         self.outputs = {track: [] for track in media.tracks}
-        self.verbs = collections.Counter()
+        self.verbs = collections.Counter()  # beside entries, stale deliveries and claims made while another worker held one
         self.place, self.line = 0, 0
 
     def wrong(self, kind, what):
@@ -205,6 +205,8 @@ class Checker:
         self.allow(picked.number == int(session), f"the first session with a usable key is {picked.number}")
         if int(worker) > self.workers:
             raise self.wrong("Staffing", f"there is no worker {worker}")
+        if any(self.claims[it].worker != int(worker) for it in self.undelivered):
+            self.verbs["beside"] += 1
         self.claims[self.place] = self.live[self.place] = Claim(int(worker), int(id), at, picked, kid, key, sample)
         self.undelivered.add(self.place)
 
