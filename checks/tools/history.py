@@ -59,7 +59,7 @@ class Checker:
         self.undelivered, self.taken = set(), set()
         self.given_up = collections.Counter()
         self.outputs = {track: [] for track in media.tracks}
-        self.verbs = collections.Counter()  # beside entries, stale deliveries and claims made while another worker held one
+        self.counted = collections.Counter()  # beside entries, stale deliveries and claims made while another worker held one
         self.place, self.line = 0, 0
 
     def wrong(self, kind, what):
@@ -96,7 +96,7 @@ class Checker:
         if form is None or int(form[1]) != self.place + 1:
             raise self.wrong("Syntax", f"{text!r} is no entry {self.place + 1}")
         self.place += 1
-        self.verbs[verb] += 1
+        self.counted[verb] += 1
         effects = getattr(self, verb)(*form.groups()[1:]) or []
         # only these change what sessions hold
         if verb in ("call", "job", "task", "tick"):
@@ -206,7 +206,7 @@ class Checker:
         if int(worker) > self.workers:
             raise self.wrong("Staffing", f"there is no worker {worker}")
         if any(self.claims[it].worker != int(worker) for it in self.undelivered):
-            self.verbs["beside"] += 1
+            self.counted["beside"] += 1
         self.claims[self.place] = self.live[self.place] = Claim(int(worker), int(id), at, picked, kid, key, sample)
         self.undelivered.add(self.place)
 
@@ -222,7 +222,7 @@ class Checker:
         if is_live:
             self.taken.add(int(place))
         else:
-            self.verbs["stale"] += 1
+            self.counted["stale"] += 1
 
     def giveup(self, place):
         place = self.hand_in(place)
