@@ -38,6 +38,7 @@ class Log:
             named = NAMES_A_CLAIM.fullmatch(entry)
             claim = self.blocks[int(named[2]) - 1] if named else None
             self.blocks.append(Block(f"{named[1]} @{named[3]}" if named else entry, claim, []))
+        self.first = list(self.blocks)
 
     def text(self):
         places = {block: place for place, block in enumerate(self.blocks, 1)}
@@ -170,6 +171,7 @@ LOGS = [
     ("a clear sample is passed that is not fed", "sample 4 of track 1 is not fed", lambda log: log.move(76, before=74)),
     # waits
     ("a wait while a session has the key", "a session has a usable key for the head of track 1", lambda log: log.add("wait 1", before=68)),
+    ("a wait though a second session has the key", "a session has a usable key for the head of track 1", lambda log: log.add("wait 1", before=34)),
     ("a wait with a live claim on the head", "a live claim is on the head of track 1", lambda log: log.add("wait 1", before=21)),
     ("a wait of a track that waits", "track 1 waits already", lambda log: log.double(58, before=60)),
     ("a wait of a track that has no sample left", "sample 3 of track 1 is not fed", lambda log: log.add("wait 1", before=51)),
@@ -211,6 +213,15 @@ LOGS = [
     ("the log without its last line", "line 18 of lane 0 has no entry", lambda log: [log.drop(place) for place in range(63, 78)]),
 ]
 
+# Legal plays, that are none of the core where it takes another claim, publication or wait first.
+CHOICES = [
+    ("the play itself, as one of the core", None, lambda log: None),
+    ("a claim on the second track before that on the first", "the core takes claim 1 2 first", lambda log: log.move(40, before=39)),
+    ("a claim of a later sample before that of the first", "the core takes claim 1 0 first", lambda log: log.move(22, before=20)),
+    ("a publication on the second track before that on the first", "the core takes publish 1 2 39 first", lambda log: (log.move(43, before=42), log.move(44, before=42))),
+    ("a wait of the second track before that of the first", "the core takes wait 1 first", lambda log: log.move(60, before=58)),
+]
+
 
 def once(text, before, after):
     bent = text.replace(before, after, 1)
@@ -244,7 +255,7 @@ class Play:
         self.media = read_media((FOLDER / "media").read_bytes())
         self.log = (FOLDER / "log").read_text()
         self.tracks = {id: bytes.fromhex((FOLDER / f"track.{id}.hex").read_text()) for id in self.media.tracks}
-        self.summary, self.workers = (FOLDER / "summary").read_bytes(), 2
+        self.summary, self.workers, self.is_of_the_core = (FOLDER / "summary").read_bytes(), 2, False
 
 
 def changed(data, place):
@@ -284,13 +295,13 @@ def past_the_window():
 def bent_plays():
     """Each row's name and words with its play."""
     yield "a claim past the window", "sample 16 is outside the window of track 1, which begins at 0", past_the_window()
-    for name, words, bend in LOGS:
-        play = Play()
-        log = Log(play.log)
-        log.first = list(log.blocks)
-        bend(log)
-        play.log, play.summary = log.text(), None
-        yield name, words, play
+    for is_of_the_core, rows in ((False, LOGS), (True, CHOICES)):
+        for name, words, bend in rows:
+            play = Play()
+            log = Log(play.log)
+            bend(log)
+            play.log, play.summary, play.is_of_the_core = log.text(), None, is_of_the_core
+            yield name, words, play
     for name, words, bend in TEXTS:
         play = Play()
         play.log = bend(play.log)
@@ -307,7 +318,7 @@ def faults():
     for name, words, play in bent_plays():
         rows += 1
         try:
-            history.check(play.script, play.media, play.log.encode(), play.tracks, play.summary, play.workers)
+            history.check(play.script, play.media, play.log.encode(), play.tracks, play.summary, play.workers, play.is_of_the_core)
             told, is_right = "it is taken", words is None
         except history.Wrong as wrong:
             told, is_right = str(wrong), words is not None and words in str(wrong)

@@ -2,8 +2,9 @@
 
 The log has to be that of a history that is legal (each entry is allowed after those before it, and has just the effects that the
 algorithms give), complete for the script and the media, staffed for a number of workers, and at rest at its end, with each claim
-delivered or given up. Each track's file has to be, sample by sample, the clear bytes or the decryption under the claim's key, and the
-summary that of the history. The first fault ends the check as `Wrong`.
+delivered or given up. In a log of the core each claim, publication and wait is the first that is allowed, as well. Each track's file has
+to be, sample by sample, the clear bytes or the decryption under the claim's key, and the summary that of the history. The first fault
+ends the check as `Wrong`.
 """
 import collections
 import re
@@ -22,6 +23,8 @@ FORMS = {
     "claim": (NUMBER, NUMBER, NUMBER, NUMBER, KID), "deliver": (NUMBER, "(taken|stale)"), "giveup": (NUMBER,),
     "publish": (NUMBER, NUMBER, NUMBER), "clear": (NUMBER, NUMBER), "wait": (NUMBER,), "settle": (NUMBER,),
 }
+# the words by which an entry says which of those allowed was taken; in this order a settle on one thread looks for a step
+CHOSEN = {"publish": slice(0, 3), "clear": slice(0, 2), "claim": slice(1, 3), "wait": slice(0, 1)}
 TEXTS = {verb: re.compile(" ".join((NUMBER, verb, *words))) for verb, words in FORMS.items()}
 
 
@@ -30,8 +33,8 @@ class Wrong(Exception):
 
     Syntax: a line is no entry with the next place. Order: it is not what the script's lines or the fragments have next. Illegal: it is not
     allowed after the entries before it. Effects: an effect is missing, another one, or too many. Staffing: a worker that is not there,
-    or that gives up what it may not. Incomplete: the log ends too early. Open: a claim was not ended. Track, Summary: what stands
-    beside the log.
+    or that gives up what it may not. Incomplete: the log ends too early. Open: a claim was not ended. Choice: it is allowed, and not
+    what the core takes first. Track, Summary: what stands beside the log.
     """
 
     def __init__(self, kind, line, what):
@@ -50,16 +53,19 @@ class Claim(NamedTuple):
 
 
 class Checker:
-    def __init__(self, script, media, workers):
+    def __init__(self, script, media, workers, is_of_the_core=False):
         self.media, self.workers = media, workers
+        # whether claims, publications and waits have to be those that the core takes first: legal histories need not
+        self.is_of_the_core = is_of_the_core
         self.world = World(media.tracks)
         self.lanes = {lane: collections.deque(it for it in script if it.lane == lane) for lane in range(LIMITS["MAX_LANES"])}
         self.fed, self.implied = 0, "settle"  # how many fragments are fed; the verb of the implied entry that comes next
         self.claims, self.live = {}, {}  # by their places: all claims, and those that are live
+        self.live_on = {}  # the place of the live claim on a sample, by its track and index
         self.undelivered, self.taken = set(), set()
         self.given_up = collections.Counter()
         self.outputs = {track: [] for track in media.tracks}
-        self.verbs = collections.Counter()
+        self.counted = collections.Counter()  # beside entries, stale deliveries and claims made while another worker held one
         self.place, self.line = 0, 0
 
     def wrong(self, kind, what):
@@ -96,8 +102,12 @@ class Checker:
         if form is None or int(form[1]) != self.place + 1:
             raise self.wrong("Syntax", f"{text!r} is no entry {self.place + 1}")
         self.place += 1
-        self.verbs[verb] += 1
-        effects = getattr(self, verb)(*form.groups()[1:]) or []
+        self.counted[verb] += 1
+        words = form.groups()[1:]
+        first = self.first(verb) if self.is_of_the_core and verb in CHOSEN else None
+        effects = getattr(self, verb)(*words) or []
+        if first is not None and first != tuple(map(int, words[CHOSEN[verb]])):
+            raise self.wrong("Choice", f"it is allowed, and the core takes {verb} {' '.join(map(str, first))} first")
         # only these change what sessions hold
         if verb in ("call", "job", "task", "tick"):
             self.end_lost_claims()
@@ -116,7 +126,12 @@ class Checker:
         """A claim is live while its session holds its very key, usable, after every entry."""
         for place, claim in list(self.live.items()):
             if claim.session.usable_key(claim.kid, self.world.moment) != claim.key:
-                del self.live[place]
+                self.end_claim(place)
+
+    def end_claim(self, place):
+        claim = self.live.pop(place, None)
+        if claim is not None:
+            del self.live_on[claim.track, claim.index]
 
     # The script's lines, and what is implied behind them
 
@@ -188,9 +203,6 @@ class Checker:
         self.allow((track.head().protection is not None) == is_protected, f"sample {index} of track {id} is {'clear' if is_protected else 'protected'}")
         return track
 
-    def live_on(self, id, index):
-        return [place for place, claim in self.live.items() if (claim.track, claim.index) == (id, index)]
-
     def claim(self, worker, id, index, session, kid):
         track, at, kid = self.track(id), int(index), bytes.fromhex(kid)
         self.allow(at < len(track.samples), f"sample {index} of track {id} is not fed")
@@ -199,13 +211,16 @@ class Checker:
         self.allow(sample.protection.kid == kid, f"sample {index} of track {id} has another key id")
         self.allow(track.published <= at < track.published + CLAIM_WINDOW, f"sample {index} is outside the window of track {id}, which begins at {track.published}")
         self.allow(not track.is_waiting, f"track {id} waits")
-        self.allow(not self.live_on(int(id), at), f"a live claim is on sample {index} of track {id}")
+        self.allow((int(id), at) not in self.live_on, f"a live claim is on sample {index} of track {id}")
         picked, key = self.world.pick(kid) or (None, None)
         self.allow(picked is not None, "no session has a usable key of that id")
         self.allow(picked.number == int(session), f"the first session with a usable key is {picked.number}")
         if int(worker) > self.workers:
             raise self.wrong("Staffing", f"there is no worker {worker}")
+        if any(self.claims[it].worker != int(worker) for it in self.undelivered):
+            self.counted["beside"] += 1
         self.claims[self.place] = self.live[self.place] = Claim(int(worker), int(id), at, picked, kid, key, sample)
+        self.live_on[int(id), at] = self.place
         self.undelivered.add(self.place)
 
     def hand_in(self, place):
@@ -220,11 +235,11 @@ class Checker:
         if is_live:
             self.taken.add(int(place))
         else:
-            self.verbs["stale"] += 1
+            self.counted["stale"] += 1
 
     def giveup(self, place):
         place = self.hand_in(place)
-        self.live.pop(place, None)
+        self.end_claim(place)
         worker = self.claims[place].worker
         self.given_up[worker] += 1
         if worker == 0 or self.given_up[worker] > 1:
@@ -235,7 +250,7 @@ class Checker:
         self.allow(at in self.claims and (self.claims[at].track, self.claims[at].index) == (int(id), int(index)), f"entry {place} is no claim on that sample")
         self.allow(at in self.taken, f"the claim of entry {place} was not delivered as taken")
         self.allow(at in self.live, f"the claim of entry {place} is not live")
-        del self.live[at]
+        self.end_claim(at)
         track.published += 1
         self.outputs[int(id)].append(open_sample(self.claims[at].sample, self.claims[at].key))
 
@@ -248,9 +263,39 @@ class Checker:
         track = self.track(id)
         self.allow(not track.is_waiting, f"track {id} waits already")
         self.head(id, track.published, True)
-        self.allow(not self.live_on(int(id), track.published), f"a live claim is on the head of track {id}")
+        self.allow((int(id), track.published) not in self.live_on, f"a live claim is on the head of track {id}")
         self.allow(self.world.pick(track.head().protection.kid) is None, f"a session has a usable key for the head of track {id}")
         return self.world.taken(self.world.wait, int(id))
+
+    # What the core takes first
+
+    def first(self, verb):
+        """Which publication, clear sample, claim or wait is allowed on the first track that allows one; none where no track does."""
+        choice = getattr(self, f"first_{verb}")
+        return next(filter(None, (choice(id, track) for id, track in self.world.tracks.items())), None)
+
+    def first_publish(self, id, track):
+        place = self.live_on.get((id, track.published))
+        return (id, track.published, place) if place in self.taken else None
+
+    def first_clear(self, id, track):
+        head = track.head()
+        return (id, track.published) if head is not None and head.protection is None else None
+
+    def first_claim(self, id, track):
+        """The least index that may be claimed."""
+        if track.is_waiting:
+            return None
+        for index in range(track.published, min(track.published + CLAIM_WINDOW, len(track.samples))):
+            protection = track.samples[index].protection
+            if protection is not None and (id, index) not in self.live_on and self.world.pick(protection.kid) is not None:
+                return id, index
+        return None
+
+    def first_wait(self, id, track):
+        head = track.head()
+        is_bare = head is not None and head.protection is not None and (id, track.published) not in self.live_on
+        return (id,) if is_bare and not track.is_waiting and self.world.pick(head.protection.kid) is None else None
 
     # The end
 
@@ -286,9 +331,9 @@ class Checker:
         return "".join(f"{it}\n" for it in lines)
 
 
-def check(script, media, log, tracks, summary, workers):
+def check(script, media, log, tracks, summary, workers, is_of_the_core=False):
     """Checks a play: its log, the bytes of its track files, and, where it is given, its summary. Gives the checker, with what it counted."""
-    checker = Checker(script, media, workers)
+    checker = Checker(script, media, workers, is_of_the_core)
     checker.read(log)
     for id in media.tracks:
         if id not in tracks:

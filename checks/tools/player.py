@@ -48,13 +48,13 @@ def around(log, line):
 
 
 def check_files(script, media, prefix, workers, summary, parsed=None):
-    """Checks the files of a play: PREFIX.log, a file for each track, and the summary where it is given."""
+    """Checks the files of a play of the program: PREFIX.log, a file for each track, and the summary where it is given."""
     lines, samples = parsed or (read_script(script), read_media(media))
     log = pathlib.Path(f"{prefix}.log").read_bytes()
     files = {id: pathlib.Path(f"{prefix}.{id}") for id in samples.tracks}
     tracks = {id: path.read_bytes() for id, path in files.items() if path.exists()}
     try:
-        checker = history.check(lines, samples, log, tracks, summary, workers)
+        checker = history.check(lines, samples, log, tracks, summary, workers, is_of_the_core=True)
     except history.Wrong as wrong:
         raise Failed(f"{wrong}{around(log, wrong.line) if wrong.line else ''}") from None
     return Played(log.decode(), tracks, "" if summary is None else summary.decode(), checker)

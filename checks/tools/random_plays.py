@@ -13,7 +13,7 @@ class Maker:
         self.is_paced = seed % 5 == 0  # lane 0 alone, a settle behind each line, and one key for each id
         self.kids = [self.random.randbytes(length) for length in self.random.choices((16, 16, 16, 1, 20), k=4)]
         self.keys = {kid: [self.random.randbytes(16) for _ in range(1 if self.is_paced else 2)] for kid in self.kids}
-        self.labels, self.moment = [], 0
+        self.labels, self.moment, self.last_call = [], 0, "certificate text:"
 
     # The media
 
@@ -56,7 +56,7 @@ class Maker:
         pssh = f"{32 + 4 + 16 * len(kids) :08x}7073736801000000{SYSTEM}{len(kids):08x}{b''.join(kids).hex()}00000000"
         keyids = "text:" + json_text({"kids": [base64url(it) for it in self.kids]})
         if self.random.random() < 0.1:
-            return self.random.choice((f"request {label} keyids text:", f"request {label} webm {keyids}", f"request {label} cenc {keyids}", f"request {label} - {keyids}"))
+            return f"request {label} " + self.random.choice(("keyids text:", 'keyids text:{"kids":[]}', f"webm {keyids}", f"cenc {keyids}", f"- {keyids}"))
         return f"request {label} cenc hex:{pssh}" if kids and self.random.random() < 0.3 else f"request {label} keyids {keyids}"
 
     def create(self):
@@ -64,16 +64,19 @@ class Maker:
         return f"create {self.labels[-1]} {self.random.choice(('temporary',) * 14 + ('persistent-license',))}"
 
     def update(self):
-        data = self.random.choice((*[self.key_set()] * 11, "x"))
+        data = self.random.choice((*[self.key_set()] * 12, "x", ""))
         return f"update {self.random.choice(self.labels)} text:{data}"
 
     def call(self):
-        verb = self.random.choice(("update",) * 8 + ("certificate",) * 2 + ("close", "remove", "access", "nobody"))
+        verb = self.random.choice(("update",) * 8 + ("certificate", "close", "remove", "access", "nobody", "request", "again", "again"))
         label = self.random.choice(self.labels)
-        return {
-            "update": self.update(), "certificate": "certificate hex:00", "close": f"close {label}", "remove": f"remove {label}",
-            "access": f"access {self.random.choice(('org.w3.clearkey', 'org.example', '-'))} text:{ACCESS}", "nobody": "close nobody",
-        }[verb]
+        if verb != "again":
+            self.last_call = {
+                "update": self.update(), "certificate": "certificate hex:00", "close": f"close {label}", "remove": f"remove {label}",
+                "access": f"access {self.random.choice(('org.w3.clearkey', 'org.example', '-'))} text:{ACCESS}", "nobody": "close nobody",
+                "request": self.request(label),
+            }[verb]
+        return self.last_call
 
     def opening(self):
         lines = []
