@@ -6,6 +6,7 @@ use Rattle.std.proofs.lemmas.List.Concat.{flat_map-append}
 use Rattle.std.proofs.lemmas.List.Elements.{filter-append, recursion_from_All}
 use Rattle.std.proofs.lemmas.Option.{slice_get_within}
 use Rattle.std.proofs.lemmas.Bool.Decides.{eqb_tells}
+use Rattle.cdm_world.proofs.ItemsAt.{get_here}
 use Rattle.eme_types.specs.declared.limits.TheConstants.{MAX_LANES, MAX_SAMPLES}
 use Rattle.eme_types.specs.declared.sample.EncSample.{EncSample}
 use Rattle.eme_types.specs.declared.media.Fragment.{Fragment}
@@ -50,11 +51,11 @@ of_rest (f ∷ fs) = (tt, (tt, of_rest fs))
 of_implied : (fs : List Fragment) → AllByRecursion IsNumbered (implied fs)
 of_implied fs = (tt, of_rest fs)
 
-all_front : {A : Type 0} (P : A → Type 0) (xs ys : List A) → AllByRecursion P (xs ++ ys) → AllByRecursion P xs
+pub all_front : {A : Type 0} (P : A → Type 0) (xs ys : List A) → AllByRecursion P (xs ++ ys) → AllByRecursion P xs
 all_front P [] ys all = tt
 all_front P (x ∷ xs) ys all = (all.0, all_front P xs ys all.1)
 
-all_behind : {A : Type 0} (P : A → Type 0) (xs ys : List A) → AllByRecursion P (xs ++ ys) → AllByRecursion P ys
+pub all_behind : {A : Type 0} (P : A → Type 0) (xs ys : List A) → AllByRecursion P (xs ++ ys) → AllByRecursion P ys
 all_behind P [] ys all = all
 all_behind P (x ∷ xs) ys all = all_behind P xs ys all.1
 
@@ -66,10 +67,6 @@ asked_numbered : (e : Entry) (es : List Entry) → AllByRecursion IsNumbered (as
 asked_numbered (Call lane line call) es all = all.0
 asked_numbered (Tick line moment) es all = all.0
 asked_numbered e es all = tt
-
-get_here : {A : Type 0} (xs : List A) (x : A) (ys : List A) → slice_get (xs ++ x ∷ ys) (length xs) ≡ Some x
-get_here [] x ys = refl
-get_here (z ∷ xs) x ys = get_here xs x ys
 
 same_number : (n : ℕ) → (n == n) ≡ true
 same_number n = elim (eqb_tells n n) [ inl p ↦ p.0 | inr p ↦ absurd (p.1 refl) ]

@@ -45,7 +45,7 @@ crew_lane : (k : ℕ) (e : Entry) → IsOfCrew k e → HasLane e
 crew_lane k (Call lane line call) w = absurd w
 crew_lane k e w = tt
 
-lanes_lane : (e : Entry) → IsOfLanes e → HasLane e
+pub lanes_lane : (e : Entry) → IsOfLanes e → HasLane e
 lanes_lane (Call lane line call) w = w
 lanes_lane e w = tt
 
@@ -61,7 +61,7 @@ asked_behind first es is = sym (append-nil (asked_in es)) ∙ is
 lines_behind : (first : List Fragment) (es : List Entry) → asked_in es ≡ implied first → lines_in es ≡ []
 lines_behind first es is = sym (lines_asked es) ∙ (ap lines_in is ∙ rest_lines first)
 
-none_left : {A : Type 0} (n : ℕ) (xs : List A) → drop n xs ≡ [] → length xs ≤ n
+pub none_left : {A : Type 0} (n : ℕ) (xs : List A) → drop n xs ≡ [] → length xs ≤ n
 none_left n xs is = let many = length-drop n xs in let none = ap length is in omega (arith, many, none)
 
 done_feeds : (fragments : List Fragment) (h : List Entry) → AreFed fragments [] h → FeedsDone fragments h

@@ -62,7 +62,7 @@ did k s o s' o' (OutOfMemory None) w = (
   },
 )
 
-none_own : (own : List ℕ) (s : List Entry) → own ≡ [] → own_in own s ≡ []
+pub none_own : (own : List ℕ) (s : List Entry) → own ≡ [] → own_in own s ≡ []
 none_own own s none = own_beyond 1 own s (λ p le. ap (times p) none)
 
 -- from a pass with no own entry

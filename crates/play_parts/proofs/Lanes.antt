@@ -16,9 +16,10 @@ use Rattle.decrypt_workers.specs.Desks.{Placed}
 use Rattle.decrypt_workers.specs.Workers.{IsAnyClaim}
 use Rattle.shared_cdm.specs.Own.{own_in, AreSeen, entries}
 use Rattle.shared_cdm.proofs.Own.{own_later}
+use Rattle.output_order.proofs.ComingNext.{all_front as all_left, all_behind as all_right}
 use Rattle.play_parts.specs.Asks.{IsOfLanes}
 use Rattle.play_parts.specs.Parts.{IsOfLane0, IsCallOf, HasLed, HasCalled, LanesIn}
-use Rattle.play_parts.proofs.Reading.{all_mapped, all_append, all_left, all_right, all_contains, all_placed, line_at, lane_flat}
+use Rattle.play_parts.proofs.Reading.{all_mapped, all_append, all_contains, all_placed, line_at, lane_flat}
 use Rattle.play_parts.proofs.Feeding.{fed_same}
 use Rattle.play_parts.proofs.Joined.{all_joined, read_first, read_second, own_left, own_either}
 

@@ -10,7 +10,7 @@ use Rattle.script_lang.specs.declared.script.Line.{Line}
 use Rattle.output_order.specs.Complete.{IsComplete}
 use Rattle.output_order.specs.Staffed.{IsStaffed}
 use Rattle.output_order.specs.Summary.{summary_of}
-use Rattle.player_core.specs.Alone.{IsAlone, IsOfOneLane}
+use Rattle.player_core.specs.Alone.{IsAlone, IsOneLane}
 use Rattle.player_cli.specs.Command.{Names}
 use Rattle.player_cli.specs.Inputs.{Input, ScriptFile, MediaFile, ScriptRead, MediaRead}
 use Rattle.player_cli.specs.FileText.{FileText}
@@ -35,7 +35,7 @@ pub record IsHistory (workers : ℕ) (script : List Line) (media : Media) (histo
 
 -- with no worker, the history of a script of lane 0 alone is that of one thread
 abbrev pub AloneWithout : ℕ → List Line → Media → List Entry → Type 0
-AloneWithout workers script media history = workers ≡ 0 → IsOfOneLane script → IsAlone script media history
+AloneWithout workers script media history = workers ≡ 0 → IsOneLane script → IsAlone script media history
 
 -- these are the files and the summary of a history of the play of this script and this media by that many workers
 pub record ArePlayed (workers : ℕ) (script : List Line) (media : Media) (prefix : List ℕ) (files : List FileText) (summary : List ℕ) : Type 0 where

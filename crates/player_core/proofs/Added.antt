@@ -12,52 +12,10 @@ use Rattle.output_order.specs.Lane.{line_of, asked, fed_by}
 use Rattle.output_order.specs.Staffed.{gives_up}
 use Rattle.player_core.specs.Alone.{LastAsked}
 use Rattle.play_parts.specs.Asks.{IsStep, IsOfLanes}
+use Rattle.play_parts.proofs.Reading.{all_append}
+use Rattle.play_parts.proofs.Steps.{step_line, step_asked, step_feeds}
 use Rattle.player_core.specs.Course.{Goes}
 use Rattle.player_core.proofs.Turns.{last_asked}
-use Rattle.player_core.proofs.Steps.{all_append}
-
--- a step is no line's, and feeds nothing
-step_line : (e : Entry) → IsStep e → line_of e ≡ []
-step_line (Call lane line call) s = absurd s
-step_line Job s = refl
-step_line Task s = refl
-step_line (Tick line moment) s = absurd s
-step_line (Feed line fragment) s = absurd s
-step_line (Claim worker track index session kid) s = refl
-step_line (Deliver place verdict) s = refl
-step_line (GiveUp place) s = absurd s
-step_line (Publish track index place) s = refl
-step_line (PassClear track index) s = refl
-step_line (WaitForKey track) s = refl
-step_line (Settle line) s = absurd s
-
-step_asked : (e : Entry) → IsStep e → asked e ≡ []
-step_asked (Call lane line call) s = absurd s
-step_asked Job s = refl
-step_asked Task s = refl
-step_asked (Tick line moment) s = absurd s
-step_asked (Feed line fragment) s = absurd s
-step_asked (Claim worker track index session kid) s = refl
-step_asked (Deliver place verdict) s = refl
-step_asked (GiveUp place) s = absurd s
-step_asked (Publish track index place) s = refl
-step_asked (PassClear track index) s = refl
-step_asked (WaitForKey track) s = refl
-step_asked (Settle line) s = absurd s
-
-step_feeds : (e : Entry) → IsStep e → fed_by e ≡ []
-step_feeds (Call lane line call) s = absurd s
-step_feeds Job s = refl
-step_feeds Task s = refl
-step_feeds (Tick line moment) s = absurd s
-step_feeds (Feed line fragment) s = absurd s
-step_feeds (Claim worker track index session kid) s = refl
-step_feeds (Deliver place verdict) s = refl
-step_feeds (GiveUp place) s = absurd s
-step_feeds (Publish track index place) s = refl
-step_feeds (PassClear track index) s = refl
-step_feeds (WaitForKey track) s = refl
-step_feeds (Settle line) s = absurd s
 
 step_samples : (e : Entry) → IsStep e → fed_samples_of e ≡ 0
 step_samples (Call lane line call) s = absurd s
@@ -177,26 +135,6 @@ alone_added old new e g all one =
 pub last_added : (old new : Run) (e : Entry) → Goes old new e → asked e ≡ e ∷ [] → LastAsked new.history
 last_added old new e g is =
     subst LastAsked (sym (history_of old new e g ∙ sym (append_assoc old.history g.taken (e ∷ [])))) (last_asked (old.history ++ g.taken) e is)
-
--- the feeds among the entries that are asked for are the feeds
-asked_feeds : (e : Entry) → flat_map fed_by (asked e) ≡ fed_by e
-asked_feeds (Call lane line call) = refl
-asked_feeds Job = refl
-asked_feeds Task = refl
-asked_feeds (Tick line moment) = refl
-asked_feeds (Feed line fragment) = refl
-asked_feeds (Claim worker track index session kid) = refl
-asked_feeds (Deliver place verdict) = refl
-asked_feeds (GiveUp place) = refl
-asked_feeds (Publish track index place) = refl
-asked_feeds (PassClear track index) = refl
-asked_feeds (WaitForKey track) = refl
-asked_feeds (Settle line) = refl
-
-pub feeds_asked : (h : List Entry) → flat_map fed_by (flat_map asked h) ≡ flat_map fed_by h
-feeds_asked [] = refl
-feeds_asked (e ∷ h) =
-    flat_map-append fed_by (asked e) (flat_map asked h) ∙ (ap (λ xs. xs ++ flat_map fed_by (flat_map asked h)) (asked_feeds e) ∙ ap (λ xs. fed_by e ++ xs) (feeds_asked h))
 
 none_given_up : (h : List Entry) (worker : ℕ) (e : Entry) → IsOfLanes e → gives_up h worker e ≡ false
 none_given_up h worker (Call lane line call) a = refl

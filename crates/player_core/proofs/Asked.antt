@@ -14,28 +14,8 @@ use Rattle.output_order.specs.Lane.{line_of, asked, fed_by, asked_in}
 use Rattle.output_order.specs.Complete.{IsOfLine, feed_rest, implied}
 use Rattle.player_core.specs.Alone.{IsAlone}
 use Rattle.play_parts.specs.Asks.{entry_of}
-use Rattle.player_core.proofs.Added.{feeds_asked}
-use Rattle.player_core.proofs.Courses.{line_as, line_above}
-
-asked_line : (e : Entry) → flat_map line_of (asked e) ≡ line_of e
-asked_line (Call lane line call) = append-nil (line_of (Call lane line call))
-asked_line Job = refl
-asked_line Task = refl
-asked_line (Tick line moment) = append-nil (line_of (Tick line moment))
-asked_line (Feed line fragment) = append-nil (line_of (Feed line fragment))
-asked_line (Claim worker track index session kid) = refl
-asked_line (Deliver place verdict) = refl
-asked_line (GiveUp place) = refl
-asked_line (Publish track index place) = refl
-asked_line (PassClear track index) = refl
-asked_line (WaitForKey track) = refl
-asked_line (Settle line) = append-nil (line_of (Settle line))
-
--- the lines of the entries that are asked for are all lines
-lines_asked : (h : List Entry) → flat_map line_of (flat_map asked h) ≡ flat_map line_of h
-lines_asked [] = refl
-lines_asked (e ∷ h) =
-    flat_map-append line_of (asked e) (flat_map asked h) ∙ (ap (λ xs. xs ++ flat_map line_of (flat_map asked h)) (asked_line e) ∙ ap (λ xs. line_of e ++ xs) (lines_asked h))
+use Rattle.play_parts.proofs.Reading.{lines_asked, feeds_asked}
+use Rattle.play_parts.proofs.Scripts.{line_as, line_above}
 
 -- what is implied is no line's
 rest_lines : (left : List Fragment) → flat_map line_of (feed_rest left) ≡ []

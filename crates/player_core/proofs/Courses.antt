@@ -27,50 +27,17 @@ use Rattle.output_order.specs.Staffed.{NamesWorker, times_given_up, IsStaffed}
 use Rattle.output_order.proofs.Sizes.{taken_more, some_same}
 use Rattle.player_core.specs.Alone.{AreInTurn, IsAlone}
 use Rattle.play_parts.specs.Asks.{entry_for, entry_of, IsOfLanes, left_by, moment_by, moment_of}
+use Rattle.play_parts.proofs.Reading.{all_append, both_true, feeds_asked}
+use Rattle.play_parts.proofs.Complete.{lanes_lane, none_left}
+use Rattle.play_parts.proofs.Scripts.{number_above_0, lane_fits_at, moment_fits_at, line_as, line_back, asked_back, above_back}
 use Rattle.player_core.specs.Course.{Goes, Settles, MayGo, HasFed, HasGone, HasFollowed}
-use Rattle.player_core.proofs.Steps.{all_append}
-use Rattle.player_core.proofs.Added.{lines_added, asked_added, ticks_added, feeds_asked, no_times_given_up}
-use Rattle.player_core.proofs.Scripts.{both_true, number_above_0, lane_fits_at, moment_fits_at}
+use Rattle.player_core.proofs.Added.{lines_added, asked_added, ticks_added, no_times_given_up}
 use Rattle.player_core.proofs.Feeding.{fed_kept, fed_more, may_feed}
 
 all_at : {X : Type 0} (P : X → Type 0) (xs : List X) (n : ℕ) (x : X) → AllByRecursion P xs → slice_get xs n ≡ Some x → P x
 all_at P [] n x all at = absurd cc
 all_at P (y ∷ xs) zero x all at = subst P (some_same at) all.0
 all_at P (y ∷ xs) (suc n) x all at = all_at P xs n x all.1 at
-
-abbrev pub line_as : ℕ → ℕ → Action → Line
-line_as number lane action = record { number = number; lane = lane; action = action }
-
-not_0 : (number : ℕ) → number ≢ 0 → (number == 0) ≡ false
-not_0 zero above = absurd (above refl)
-not_0 (suc n) above = eqb-suc-zero n
-
-pub line_above : (number lane : ℕ) (action : Action) → number ≢ 0 → line_with number lane action ≡ line_as number lane action ∷ []
-line_above number lane action above =
-    let pick : Bool → List Line = λ b. if b then [] else line_as number lane action ∷ [] in
-    ap pick (not_0 number above)
-
-lane_0 : (number lane : ℕ) (action : Action) → number ≢ 0 → IsTrue (lane == 0) → line_with number 0 action ≡ line_as number lane action ∷ []
-lane_0 number lane action above is = line_above number 0 action above ∙ ap (λ l. line_as number l action ∷ []) (sym (eqb-true lane 0 is))
-
--- the entry of a line stands for that line
-line_back : (number lane : ℕ) (action : Action) (given : Option Fragment) → number ≢ 0 → IsTrue (lane_fits lane action) → line_of (entry_for number lane action given) ≡ line_as number lane action ∷ []
-line_back number lane (Ask call) given above fits = line_above number lane (Ask call) above
-line_back number lane FeedAction given above fits = lane_0 number lane FeedAction above fits
-line_back number lane (Clock moment) given above fits = lane_0 number lane (Clock moment) above fits
-line_back number lane SettleAction given above fits = lane_0 number lane SettleAction above fits
-
-asked_back : (number lane : ℕ) (action : Action) (given : Option Fragment) → asked (entry_for number lane action given) ≡ entry_for number lane action given ∷ []
-asked_back number lane (Ask call) given = refl
-asked_back number lane FeedAction given = refl
-asked_back number lane (Clock moment) given = refl
-asked_back number lane SettleAction given = refl
-
-above_back : (number lane : ℕ) (action : Action) (given : Option Fragment) → number ≢ 0 → IsOfLine (entry_for number lane action given)
-above_back number lane (Ask call) given above = above
-above_back number lane FeedAction given above = above
-above_back number lane (Clock moment) given above = above
-above_back number lane SettleAction given above = above
 
 ticks_back : (last number lane : ℕ) (action : Action) (given : Option Fragment) → tick_to last (entry_for number lane action given) ≡ moment_after last action
 ticks_back last number lane (Ask call) given = refl
@@ -174,20 +141,6 @@ pub followed_more : (script : List Line) (media : Media) (left : List Fragment) 
 followed_more script media [] old mid new some g s followed = absurd (omega (arith, some))
 followed_more script media (f ∷ left) old mid new some g s followed = followed_next script media f left old mid new g s followed
 
-alone_lane : (e : Entry) → IsOfLanes e → HasLane e
-alone_lane (Call lane line call) a = omega (arith, a)
-alone_lane Job a = tt
-alone_lane Task a = tt
-alone_lane (Tick line moment) a = tt
-alone_lane (Feed line fragment) a = tt
-alone_lane (Claim worker track index session kid) a = tt
-alone_lane (Deliver place verdict) a = tt
-alone_lane (GiveUp place) a = tt
-alone_lane (Publish track index place) a = tt
-alone_lane (PassClear track index) a = tt
-alone_lane (WaitForKey track) a = tt
-alone_lane (Settle line) a = tt
-
 alone_worker : (e : Entry) → IsOfLanes e → NamesWorker 0 e
 alone_worker (Call lane line call) a = tt
 alone_worker Job a = tt
@@ -202,14 +155,11 @@ alone_worker (PassClear track index) a = tt
 alone_worker (WaitForKey track) a = tt
 alone_worker (Settle line) a = tt
 
-none_left : {A : Type 0} (n : ℕ) (xs : List A) → drop n xs ≡ [] → length xs ≤ n
-none_left n xs is = let many = length-drop n xs in let none = ap length is in omega (arith, many, none)
-
 -- with no fragment left the history is complete
 pub is_complete : (script : List Line) (media : Media) (r : Run) → HasFollowed script media [] r → IsComplete script media r.history
 is_complete script media r followed = record {
   lanes = λ i few. ap (λ lines. lane lines i) followed.lines;
-  known = λ n e at. alone_lane e (all_at IsOfLanes r.history n e followed.fed.alone at);
+  known = λ n e at. lanes_lane e (all_at IsOfLanes r.history n e followed.fed.alone at);
   feeds = record { each = followed.fed.feeds; all = none_left (length (feeds_in r.history)) media.fragments followed.fed.left_ };
   implied = record { lines = followed.before; above = followed.above; is = sym (append-nil (asked_in r.history)) ∙ followed.follows };
   rest = subst (λ ids. AtRest (world ids r.history)) followed.fed.tracks followed.rest;

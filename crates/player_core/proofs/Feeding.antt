@@ -14,9 +14,9 @@ use Rattle.cdm_state.specs.History.{MayFeedNext, samples_in, bytes_in, fed_sampl
 use Rattle.output_order.specs.Lane.{asked, feeds_in, fed_by}
 use Rattle.output_order.specs.Complete.{FeedsBegun}
 use Rattle.play_parts.specs.Asks.{IsOfLanes}
+use Rattle.play_parts.proofs.Reading.{true_at}
 use Rattle.player_core.specs.Course.{Goes, HasFed}
 use Rattle.player_core.proofs.Added.{tracks_kept, feeds_added, samples_added, bytes_added, alone_added, last_added}
-use Rattle.player_core.proofs.Scripts.{all_true_at}
 use Rattle.player_core.proofs.Steps.{push_cases}
 
 -- an entry that feeds nothing
@@ -102,8 +102,8 @@ may_feed_given media left r (Some f) fed is =
     let samples_were = fed.samples in
     let bytes_were = fed.bytes in
     record {
-      known = subst (λ ids. IsTrue (are_known ids f)) (sym fed.tracks) (all_true_at (are_known media.tracks) media.fragments (length (feeds_in r.history)) f fed.valid.known at);
-      formed = all_true_at are_well_formed media.fragments (length (feeds_in r.history)) f fed.valid.formed at;
+      known = subst (λ ids. IsTrue (are_known ids f)) (sym fed.tracks) (true_at (are_known media.tracks) media.fragments (length (feeds_in r.history)) f fed.valid.known at);
+      formed = true_at are_well_formed media.fragments (length (feeds_in r.history)) f fed.valid.formed at;
       samples = omega (arith, samples, few, samples_were);
       bytes = omega (arith, bytes, small, bytes_were);
     }

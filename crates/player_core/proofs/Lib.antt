@@ -1,7 +1,6 @@
 pub mod Turns
 pub mod Steps
 pub mod Added
-pub mod Scripts
 pub mod Feeding
 pub mod Courses
 pub mod Inspects

@@ -15,14 +15,13 @@ use Rattle.cdm_state.specs.After.{after_entry}
 use Rattle.cdm_state.specs.History.{world, AtRest, Undelivered, MayClaim, MayPublish, MayPassClear, MayWait}
 use Rattle.cdm_state.specs.Run.{Run, with_entry}
 use Rattle.cdm_state.specs.Progress.{NoneWaits, NothingToDo}
+use Rattle.cdm_state.proofs.Places.{waited_or_new}
+use Rattle.team_play.proofs.Added.{world_settled}
 use Rattle.player_core.specs.Alone.{LastAsked, InTurn, AreInTurn}
 use Rattle.play_parts.specs.Asks.{IsStep}
+use Rattle.play_parts.proofs.Reading.{all_append}
 use Rattle.player_core.specs.Course.{more_history, Steps, Moves, Goes, Settles}
 use Rattle.player_core.proofs.Turns.{turns_more}
-
-pub all_append : {X : Type 0} (P : X → Type 0) (xs ys : List X) → AllByRecursion P xs → AllByRecursion P ys → AllByRecursion P (xs ++ ys)
-all_append P [] ys a b = b
-all_append P (x ∷ xs) ys a b = (a.0, all_append P xs ys a.1 b)
 
 more_twice : (r : Run) (xs ys : List Entry) → more_history (more_history r xs) ys ≡ more_history r (xs ++ ys)
 more_twice r xs ys = ap (λ (h : List Entry). let s : Run = record r { history = h } in s) (append_assoc r.history xs ys)
@@ -59,18 +58,11 @@ none_waits h e plain none c u =
       | inr new ↦ plain u.worker u.track u.index u.session u.kid new.1
     ]
 
-waits_or_new : (h : List Entry) (e : Entry) (c : ℕ) → Undelivered (h ++ e ∷ []) c → Undelivered h c ⊎ (c ≡ length h + 1)
-waits_or_new h e c u =
-    elim (push_cases h e (c - 1) (Claim u.worker u.track u.index u.session u.kid) u.at.1) [
-      | inl there ↦ inl (still_waits h e c u there)
-      | inr new ↦ inr (omega (arith, u.at.0, new.0))
-    ]
-
 -- nor do a claim and its delivery
 both_wait : (h : List Entry) (e : Entry) (place : ℕ) (verdict : Verdict) → place ≡ length h + 1 → NoneWaits h → NoneWaits ((h ++ e ∷ []) ++ Deliver place verdict ∷ [])
 both_wait h e place verdict here none c u =
-    elim (waits_or_new (h ++ e ∷ []) (Deliver place verdict) c u) [
-      | inl before ↦ elim (waits_or_new h e c before) [
+    elim (waited_or_new (h ++ e ∷ []) (Deliver place verdict) c u) [
+      | inl before ↦ elim (waited_or_new h e c before) [
         | inl old ↦ none c old
         | inr new ↦ u.none (length (h ++ e ∷ [])) (Deliver place verdict) (push_last (h ++ e ∷ []) (Deliver place verdict)) (here ∙ sym new)
       ]
@@ -161,10 +153,6 @@ goes_after old mid new e a b turns = record {
   delivered = λ none. b.delivered (a.delivered none);
   turns = λ last all. turns (a.turns all);
 }
-
-world_settled : (ids : List ℕ) (h : List Entry) (line : ℕ) → world ids (h ++ Settle line ∷ []) ≡ world ids h
-unfolding world
-world_settled ids h line = fold-append after_entry (empty_world ids) h (Settle line ∷ [])
 
 pub settles_now : (old new : Run) (line : ℕ) → new ≡ with_entry old (Settle line) → AtRest (world old.tracks old.history) → NoneWaits old.history → NothingToDo old.tracks old.history → Settles old new line
 settles_now old new line is rest none idle = record {

@@ -23,14 +23,10 @@ use Rattle.decrypt_workers.specs.Desks.{Placed, Adds as DeskAdds, IsClaim}
 use Rattle.decrypt_workers.specs.Workers.{IsAnyClaim}
 use Rattle.decrypt_workers.proofs.Works.{prefix_trans}
 use Rattle.shared_cdm.specs.Shared.{run, Shared}
-use Rattle.shared_cdm.proofs.Held.{later_of, delivered_as}
+use Rattle.shared_cdm.proofs.Held.{later_of, delivered_as, last_of}
 use Rattle.play_parts.specs.Asks.{IsStep}
 use Rattle.play_parts.proofs.Steps.{steps_none, steps_both, steps_one, steps_claim}
 use Rattle.team_play.specs.Adds.{Steps, AddsOne, StepsAnd, Settles}
-
-last_of : (xs : List Entry) (x y : Entry) → xs ++ x ∷ [] ≡ xs ++ y ∷ [] → x ≡ y
-last_of [] x y e = cc e
-last_of (z ∷ xs) x y e = last_of xs x y (cc e)
 
 one_longer : (s h : List Entry) (e : Entry) → s ≡ h → s ≡ h ++ e ∷ [] → ⊥
 one_longer s h e same more =
@@ -129,7 +125,7 @@ took_both s s1 s2 o o1 o2 a b = record {
 pub just_one : (e : Entry) (s s' : List Entry) (o o' : Placed) → AddsOne e s o s' o' → StepsAnd e s o s' o'
 just_one e s s' o o' a = record { later = a.later; steps = []; place = a.is.0; own = a.own ∙ ap (λ (z : Placed). o ++ z) a.is.1; are = steps_none }
 
-world_settled : (ids : List ℕ) (h : List Entry) (line : ℕ) → world ids (h ++ Settle line ∷ []) ≡ world ids h
+pub world_settled : (ids : List ℕ) (h : List Entry) (line : ℕ) → world ids (h ++ Settle line ∷ []) ≡ world ids h
 unfolding world
 world_settled ids h line = fold-append after_entry (empty_world ids) h (Settle line ∷ [])
 

@@ -26,13 +26,10 @@ use Rattle.shared_cdm.specs.declared.shared.SharedCdm.{SharedCdm}
 use Rattle.play_parts.specs.Parts.{HasLed, HasCalled, HasFollowed, LanesIn}
 use Rattle.play_parts.specs.Whole.{TeamOver, IsWhole, TeamIsWhole}
 use Rattle.play_parts.proofs.Lanes.{lanes_first, lanes_empty, lanes_more}
-use Rattle.play_parts.proofs.Crews.{team_none, team_more}
+use Rattle.play_parts.proofs.Crews.{none_own, team_none, team_more}
 use Rattle.team_play.specs.Team.{Begins}
 
 -- ---- passes that are split off
-
-pub none_own : (own : List ℕ) (s : List Entry) → own ≡ [] → own_in own s ≡ []
-none_own own s none = own_beyond 1 own s (λ p le. ap (times p) none)
 
 module _ {g : Ghosts Run Entry} where
   -- who has lost a part still begins

@@ -1,5 +1,5 @@
 use Rattle.std.proofs.Common.{sym, ◌∙◌}
-use Rattle.team_play.proofs.Teams.{none_own}
+use Rattle.play_parts.proofs.Crews.{none_own}
 use Rattle.team_play.proofs.lanes.lane_with.Goals as goal
 
 pub run_lane-requires-clause-none : goal.run_lane-requires-clause-none
