@@ -9,5 +9,5 @@ pub mod Lanes
 pub mod Crews
 mod Tail
 mod Team
-mod Complete
+pub mod Complete
 mod Staff
