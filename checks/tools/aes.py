@@ -29,7 +29,7 @@ INVERSE_S = [S.index(x) for x in range(256)]
 
 
 def columns(box, factors):
-    """Four tables: the column that a byte gives in its row, the row's table being that of row 0 turned by a byte."""
+    """Four tables: the column that a byte gives in its row, the row's table being that of the first row turned by a byte."""
     first = [int.from_bytes(bytes(times(box[x], f) for f in factors), "big") for x in range(256)]
     return [[((w >> (8 * row)) | (w << (32 - 8 * row))) & 0xFFFFFFFF for w in first] for row in range(4)]
 
