@@ -83,12 +83,22 @@ pub enum Event {
     Encrypted { init: InitData },
 }
 
+/// Why a session is closed (Encrypted Media Extensions, MediaKeySessionClosedReason).
+#[derive(Clone, Copy, Debug, PartialEq, Eq)]
+pub enum Reason {
+    /// `closed-by-application`: after a `close`.
+    ClosedByApplication,
+    /// `resource-evicted`: the CDM ended the session.
+    ResourceEvicted,
+}
+
 /// What a step did that the application can see.
 #[derive(Drop)]
 pub enum Effect {
     /// The reported statuses of a session were replaced.
     Statuses { session: u32, list: StatusList },
-    Closed { session: u32 },
+    /// The `closed` promise of a session was settled.
+    Closed { session: u32, reason: Reason },
     Promise { promise: u64, how: Settled },
     Fired { event: Event },
 }
@@ -160,7 +170,10 @@ impl Copies for Effect {
                 session: *session,
                 list: list.copy()?,
             }),
-            Effect::Closed { session } => Ok(Effect::Closed { session: *session }),
+            Effect::Closed { session, reason } => Ok(Effect::Closed {
+                session: *session,
+                reason: *reason,
+            }),
             Effect::Promise { promise, how } => Ok(Effect::Promise {
                 promise: *promise,
                 how: how.copy()?,

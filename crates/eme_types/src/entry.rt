@@ -2,7 +2,7 @@
 ghost use Rattle.std.specs.Prelude.{◌≡◌, IfOk};
 
 use crate::call::AppCall;
-use crate::items::Copies;
+use crate::items::{Bytes, Copies};
 use crate::kid::KeyId;
 use crate::media::Fragment;
 use std::alloc::AllocError;
@@ -37,6 +37,11 @@ pub enum Entry {
     Feed {
         line: u32,
         fragment: Option<Fragment>,
+    },
+    /// The CDM ended the session with the label, where it was open.
+    Evict {
+        line: u32,
+        label: Bytes,
     },
     /// A worker took a sample, to be opened under the key that the session holds for its key id.
     Claim {
@@ -100,6 +105,10 @@ impl Copies for Entry {
                     fragment,
                 })
             }
+            Entry::Evict { line, label } => Ok(Entry::Evict {
+                line: *line,
+                label: label.copy()?,
+            }),
             Entry::Claim {
                 worker,
                 track,

@@ -49,6 +49,8 @@ pub enum Status {
     Usable,
     Expired,
     Released,
+    /// `usable-in-future`: the start of its key set is still to come.
+    UsableInFuture,
 }
 
 pub type Kids = Items<KeyId>;

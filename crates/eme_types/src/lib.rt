@@ -13,7 +13,7 @@ mod sample;
 mod tests;
 
 pub use access::{Capabilities, Capability, Config, Configs, Need, Texts};
-pub use call::{AppCall, DomError, Effect, Effects, Event, Settled};
+pub use call::{AppCall, DomError, Effect, Effects, Event, Reason, Settled};
 pub use entry::{Entry, Verdict};
 pub use items::{Bytes, Copies, Items};
 pub use kid::{KeyBytes, KeyId, KeyIdFault, KeyPairs, Kids, Status, StatusList};
@@ -23,6 +23,6 @@ pub use limits::{
     MAX_SESSION_KIDS, MAX_SESSIONS, MAX_TRACKS, MAX_WORKERS,
 };
 pub use media::{
-    Fragment, Fragments, InitData, InitKind, Inits, Media, Parts, TrackIds, TrackPart,
+    Fragment, Fragments, InitData, InitKind, Inits, Media, Parts, TrackIds, TrackPart, TrackTexts,
 };
 pub use sample::{EncSample, Iv, IvSizes, Protect, Samples, Scheme, Sub, Subs};

@@ -41,6 +41,9 @@ pub type Fragments = Items<Fragment>;
 
 pub type TrackIds = Items<u32>;
 
+/// What is written of each track: its id and the bytes, in track order.
+pub type TrackTexts = Items<(u32, Bytes)>;
+
 /// A media file: its tracks in order, and its fragments.
 #[derive(Drop)]
 pub struct Media {

@@ -63,8 +63,12 @@ fn entries_are_copied_whole(rt: HostRuntime) -> Result<(), Fail> {
     let mut entries = Items::new(rt.alloc());
     entries.push(call)?;
     entries.push(feed(rt.alloc())?)?;
+    entries.push(Entry::Evict {
+        line: 7,
+        label: Bytes::from_slice(rt.alloc(), b"b")?,
+    })?;
     let copied = entries.copy()?;
-    assert_eq!(rt; copied.len(), 2);
+    assert_eq!(rt; copied.len(), 3);
     match copied.as_slice() {
         [
             Entry::Call {
@@ -76,8 +80,13 @@ fn entries_are_copied_whole(rt: HostRuntime) -> Result<(), Fail> {
                 line: 6,
                 fragment: Some(fragment),
             },
+            Entry::Evict {
+                line: 7,
+                label: evicted,
+            },
         ] => {
             assert_eq!(rt; label.as_slice(), b"a".as_slice());
+            assert_eq!(rt; evicted.as_slice(), b"b".as_slice());
             assert_eq!(rt; fragment.inits.len(), 1);
         }
         _ => assert!(rt; false, "other entries"),

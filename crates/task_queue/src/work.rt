@@ -55,6 +55,10 @@ pub enum Task {
         session: u32,
         promise: u64,
     },
+    /// The session was evicted.
+    Evicted {
+        session: u32,
+    },
     /// The statuses of a session may have changed by the time.
     Report {
         session: u32,
