@@ -9,7 +9,7 @@ use Rattle.eme_types.specs.declared.limits.TheConstants.{MAX_KEY_SET_BYTES, MAX_
 use Rattle.eme_types.specs.declared.kid.KeyBytes.{KeyBytes}
 use Rattle.clearkey_json.specs.declared.key_set.KeySet.{KeySet}
 use Rattle.clearkey_json.specs.declared.key_set.KeySetFault.{KeySetFault}
-use Rattle.clearkey_json.specs.declared.key_set.KeySetFault.TheVariants.{TooLong, Json, Shape, NoKeys, Kty, Kid, Key, Kind, Expires}
+use Rattle.clearkey_json.specs.declared.key_set.KeySetFault.TheVariants.{TooLong, Json, Shape, NoKeys, Kty, Kid, Key, Kind, Expires, From}
 use Rattle.clearkey_json.specs.Base64url.{kid_of, key_of}
 use Rattle.clearkey_json.specs.Json.{json_of, list_of, text_at}
 
@@ -46,15 +46,15 @@ abbrev pub is_temporary : Option Data → Bool
 is_temporary None = true
 is_temporary (Some d) = option_eq bytes_eq (as_str d) (Some (codes "temporary"))
 
--- milliseconds from 0 to 2^53; serde_json keeps apart whole numbers written as digits alone from 1.0, 1e3 and -0
-abbrev pub moment_of : Option ℕ → Result (Option ℕ) KeySetFault
-moment_of None = Err Expires
-moment_of (Some n) = if nat_le n MAX_MOMENT then Ok (Some n) else Err Expires
+-- milliseconds from 0 to 2^53, or the fault; serde_json keeps apart whole numbers written as digits alone from 1.0, 1e3 and -0
+abbrev pub in_range : KeySetFault → Option ℕ → Result (Option ℕ) KeySetFault
+in_range fault None = Err fault
+in_range fault (Some n) = if nat_le n MAX_MOMENT then Ok (Some n) else Err fault
 
--- when the keys expire; without the member never
-abbrev pub expiration_of : Option Data → Result (Option ℕ) KeySetFault
-expiration_of None = Ok None
-expiration_of (Some d) = moment_of (option_and_then as_u64 (as_number d))
+-- the moment that a member says, or the fault; without the member none
+abbrev pub moment_of : KeySetFault → Option Data → Result (Option ℕ) KeySetFault
+moment_of fault None = Ok None
+moment_of fault (Some d) = in_range fault (option_and_then as_u64 (as_number d))
 
 -- the key set that the bytes are, or the first rule that they break
 unfoldable pub key_set : List ℕ → Result KeySet KeySetFault
@@ -64,5 +64,6 @@ key_set bytes = do
   keys ← ok_or (web_keys set) Shape
   pairs ← pairs_of keys
   temporary ← demanded Kind (is_temporary (get (codes "type") set))
-  expires ← expiration_of (get (codes "expires") set)
-  Ok (record { keys = pairs; expires = expires })
+  expires ← moment_of Expires (get (codes "expires") set)
+  start ← moment_of From (get (codes "from") set)
+  Ok (record { keys = pairs; expires = expires; from = start })

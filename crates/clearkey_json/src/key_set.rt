@@ -5,18 +5,20 @@ ghost use Rattle.std.specs.List.{list_all};
 ghost use Rattle.serde_json.specs.View.{view};
 ghost use Rattle.serde_json.specs.Find.{get};
 ghost use Rattle.eme_types.specs.FirstFault.{Gives};
-ghost use Rattle.clearkey_json.specs.KeySet.{is_web_key, web_keys, pair_of, pairs_of, is_temporary, expiration_of, key_set};
+ghost use Rattle.clearkey_json.specs.KeySet.{is_web_key, web_keys, pair_of, pairs_of, is_temporary, moment_of, key_set};
 
 use crate::text::{json_of, key_of, kid_of, text_at};
 use eme_types::{KeyBytes, KeyId, KeyPairs, MAX_KEY_SET_BYTES, MAX_MOMENT};
 use serde_json::Value;
 use std::alloc::{AllocError, Global};
 
-/// The keys of a licence, in its order, and the moment in milliseconds from which on they are expired; none: never.
+/// The keys of a licence, in its order; the moment in milliseconds from which on they are expired, none: never; and the
+/// moment from which on they are usable, none: at once.
 #[derive(Drop)]
 pub struct KeySet {
     pub keys: KeyPairs,
     pub expires: Option<u64>,
+    pub from: Option<u64>,
 }
 
 /// The first rule that bytes break which are no key set.
@@ -40,6 +42,8 @@ pub enum KeySetFault {
     Kind,
     /// The member `expires` is no whole number from 0 to 2^53, written as digits alone.
     Expires,
+    /// The member `from` is no whole number from 0 to 2^53, written as digits alone.
+    From,
     OutOfMemory,
 }
 
@@ -131,16 +135,16 @@ fn is_temporary(set: &Value) -> bool
     }
 }
 
-// When the keys expire.
-fn expiration_of(set: &Value) -> Result<Option<u64>, KeySetFault>
-    ensures { result ≡ expiration_of (get (codes "expires") (view set.now)) }
+// The moment that a member says, if it is there.
+fn moment_of(member: Option<&Value>, fault: KeySetFault) -> Result<Option<u64>, KeySetFault>
+    ensures { result ≡ moment_of fault (option_map (λ value. view value.now) member) }
 {
-    let Some(member) = set.get("expires") else {
+    let Some(member) = member else {
         return Ok(None);
     };
     match member.as_u64() {
         Some(moment) if moment <= MAX_MOMENT => Ok(Some(moment)),
-        _ => Err(KeySetFault::Expires),
+        _ => Err(fault),
     }
 }
 
@@ -164,6 +168,11 @@ pub fn read_key_set(alloc: Global, bytes: &[u8]) -> Result<KeySet, KeySetFault>
     if !is_temporary(&set) {
         return Err(KeySetFault::Kind);
     }
-    let expires = expiration_of(&set)?;
-    Ok(KeySet { keys, expires })
+    let expires = moment_of(set.get("expires"), KeySetFault::Expires)?;
+    let from = moment_of(set.get("from"), KeySetFault::From)?;
+    Ok(KeySet {
+        keys,
+        expires,
+        from,
+    })
 }

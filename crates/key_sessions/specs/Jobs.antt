@@ -1,8 +1,8 @@
 -- What the front job does: the parallel part of a session algorithm (Encrypted Media Extensions section 6).
-use Rattle.std.specs.Prelude.{ℕ, if◌then◌else◌, nat_lt, Bool, List, [], ◌∷◌, map, length, Option, Some, None, Result, Ok, Err}
+use Rattle.std.specs.Prelude.{ℕ, if◌then◌else◌, nat_lt, Bool, false, List, [], ◌∷◌, map, length, Option, Some, None, Result, Ok, Err}
 use Rattle.eme_types.specs.declared.limits.TheConstants.{MAX_SESSION_KIDS}
 use Rattle.eme_types.specs.declared.call.DomError.{DomError}
-use Rattle.eme_types.specs.declared.call.DomError.TheVariants.{TypeFault, NotSupported, Quota}
+use Rattle.eme_types.specs.declared.call.DomError.TheVariants.{InvalidState, TypeFault, NotSupported, Quota}
 use Rattle.clearkey_json.specs.declared.key_set.KeySet.{KeySet}
 use Rattle.clearkey_json.specs.declared.key_set.KeySetFault.{KeySetFault}
 use Rattle.clearkey_json.specs.KeySet.{key_set}
@@ -13,8 +13,8 @@ use Rattle.task_queue.specs.declared.work.Job.{Job}
 use Rattle.task_queue.specs.declared.work.Job.TheVariants.{Request, Update, Close, Remove}
 use Rattle.task_queue.specs.declared.work.Task.TheVariants.{Reject, RequestDone, UpdateDone, CloseDone, RemoveDone}
 use Rattle.key_statuses.specs.Table.{grant_all, released}
-use Rattle.key_statuses.specs.Statuses.{held_status, is_changed}
-use Rattle.key_sessions.specs.Machine.{SessionState, Machine, session_at, new_session}
+use Rattle.key_statuses.specs.Statuses.{is_changed}
+use Rattle.key_sessions.specs.Machine.{SessionState, Machine, session_at, status_at, new_session}
 use Rattle.key_sessions.specs.Steps.{Done, unmoved, queue_task, with_session}
 
 -- initialization data outside its format; data that names no key id. What the data says never is that memory is wanted
@@ -28,13 +28,13 @@ abbrev pub request_job : ℕ → ℕ → Result (List (List ℕ)) InitFault → 
 request_job n p (Ok kids) m = queue_task (RequestDone n kids p) m
 request_job n p (Err fault) m = queue_task (Reject p (request_error fault)) m
 
--- the keys of the set are granted in order, and its expiration, or none, replaces the session's
+-- the keys of the set are granted in order, and its start and its expiration, or none, replace the session's
 abbrev pub with_set : KeySet → SessionState → SessionState
-with_set set s = record s { keys = grant_all s.keys set.keys; expiration = set.expires }
+with_set set s = record s { keys = grant_all s.keys set.keys; start = set.from; expiration = set.expires }
 
 -- a table or its statuses differ, at a moment
 abbrev pub is_changed_by : ℕ → SessionState → SessionState → Bool
-is_changed_by moment old new = is_changed old.keys (held_status old.expiration moment) new.keys (held_status new.expiration moment)
+is_changed_by moment old new = is_changed old.keys (status_at moment old) new.keys (status_at moment new)
 
 -- the session of a job is there
 abbrev pub found : Option SessionState → SessionState
@@ -52,20 +52,43 @@ abbrev pub update_job : ℕ → ℕ → Result KeySet KeySetFault → Machine �
 update_job n p (Ok set) m = grant_set n p set (found (session_at m.sessions n)) m
 update_job n p (Err fault) m = queue_task (Reject p TypeFault) m
 
--- the session has no key and no expiration
+-- the session has no key, no start and no expiration
 abbrev pub cleared : SessionState → SessionState
-cleared s = record s { keys = []; expiration = None }
+cleared s = record s { keys = []; start = None; expiration = None }
 
--- the session's ids stay known and released, and it has no expiration
+-- the session's ids stay known and released, and it has no start and no expiration
 abbrev pub without_keys : SessionState → SessionState
-without_keys s = record s { keys = map released s.keys; expiration = None }
+without_keys s = record s { keys = map released s.keys; start = None; expiration = None }
 
--- what a job does
+-- what a job of a session that was not evicted does
+abbrev pub work_job : Job → Machine → Machine
+work_job (Request n kind init p) m = request_job n p (kids_of kind init) m
+work_job (Update n response p) m = update_job n p (key_set response) m
+work_job (Close n p) m = queue_task (CloseDone n p) (with_session n cleared m)
+work_job (Remove n p) m = queue_task (RemoveDone n p) (with_session n without_keys m)
+
+-- the session that a job was queued for
+abbrev pub job_session : Job → ℕ
+job_session (Request n kind init p) = n
+job_session (Update n response p) = n
+job_session (Close n p) = n
+job_session (Remove n p) = n
+
+-- the promise that a job answers
+abbrev pub job_promise : Job → ℕ
+job_promise (Request n kind init p) = p
+job_promise (Update n response p) = p
+job_promise (Close n p) = p
+job_promise (Remove n p) = p
+
+-- the session is there and was evicted
+abbrev pub is_evicted : Option SessionState → Bool
+is_evicted None = false
+is_evicted (Some s) = s.evicted
+
+-- what a job does: that of an evicted session queues the rejection of its promise, whatever its kind
 abbrev pub run_job : Job → Machine → Machine
-run_job (Request n kind init p) m = request_job n p (kids_of kind init) m
-run_job (Update n response p) m = update_job n p (key_set response) m
-run_job (Close n p) m = queue_task (CloseDone n p) (with_session n cleared m)
-run_job (Remove n p) m = queue_task (RemoveDone n p) (with_session n without_keys m)
+run_job job m = if is_evicted (session_at m.sessions (job_session job)) then queue_task (Reject (job_promise job) InvalidState) m else work_job job m
 
 -- the front job is taken
 abbrev pub take_job : List Job → Machine → Machine

@@ -1,13 +1,13 @@
 -- Which keys can be used now.
-use Rattle.std.specs.Prelude.{ℕ, ◌+◌, if◌then◌else◌, List, [], ◌∷◌, Option, Some, None}
+use Rattle.std.specs.Prelude.{ℕ, ◌+◌, ◌&&◌, ◌||◌, not, Bool, false, if◌then◌else◌, List, [], ◌∷◌, Option, Some, None, is_some}
 use Rattle.eme_types.specs.declared.kid.KeyBytes.{KeyBytes}
 use Rattle.key_statuses.specs.Table.{key_in}
-use Rattle.key_statuses.specs.Statuses.{held_status, is_usable}
-use Rattle.key_sessions.specs.Machine.{SessionState, Machine, session_at}
+use Rattle.key_statuses.specs.Statuses.{is_usable, is_usable_later}
+use Rattle.key_sessions.specs.Machine.{SessionState, Machine, session_at, status_at}
 
--- the key that a session holds under an id, where it is not closed and the moment is before its expiration, if it has one
+-- the key that a session holds under an id, where it is not closed, its start is none or not after the moment, and its expiration is none or after it
 abbrev pub usable_key : ℕ → SessionState → List ℕ → Option KeyBytes
-usable_key moment s kid = if s.closed then None else (if is_usable (held_status s.expiration moment) then key_in s.keys kid else None)
+usable_key moment s kid = if s.closed then None else (if is_usable (status_at moment s) then key_in s.keys kid else None)
 
 -- the key that the session holds usable at a moment, if it is there
 abbrev pub key_of : ℕ → Option SessionState → List ℕ → Option KeyBytes
@@ -35,3 +35,16 @@ pick_from moment n (s ∷ more) kid = or_else (usable_key moment s kid) n (pick_
 -- the pick for a key id: the first session that holds it usable now, and its key
 abbrev pub pick : Machine → List ℕ → Option (ℕ × KeyBytes)
 pick m kid = pick_from m.moment 1 m.sessions kid
+
+-- the session is not closed, and holds under the id a key whose status at the moment is `usable-in-future`
+abbrev pub holds_later : ℕ → List ℕ → SessionState → Bool
+holds_later moment kid s = not s.closed && (is_usable_later (status_at moment s) && is_some (key_in s.keys kid))
+
+-- some of these sessions does
+abbrev pub any_later : ℕ → List ℕ → List SessionState → Bool
+any_later moment kid [] = false
+any_later moment kid (s ∷ more) = holds_later moment kid s || any_later moment kid more
+
+-- some session that is not closed holds under the id a key that is usable later
+abbrev pub is_later : Machine → List ℕ → Bool
+is_later m kid = any_later m.moment kid m.sessions

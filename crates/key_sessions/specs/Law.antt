@@ -1,5 +1,5 @@
 -- What the steps do with promises, and what a rejected call leaves.
-use Rattle.std.specs.Prelude.{ℕ, ◌≡◌, ◌++◌, if◌then◌else◌, [], ◌∷◌, Option, Some, None}
+use Rattle.std.specs.Prelude.{ℕ, ◌≡◌, ◌++◌, if◌then◌else◌, List, [], ◌∷◌, Option, Some, None}
 use Rattle.eme_types.specs.declared.call.AppCall.{AppCall}
 use Rattle.eme_types.specs.declared.call.AppCall.TheVariants.{Request}
 use Rattle.eme_types.specs.declared.call.DomError.{DomError}
@@ -9,6 +9,7 @@ use Rattle.key_sessions.specs.Machine.{SessionState, Machine}
 use Rattle.key_sessions.specs.Steps.{with_session}
 use Rattle.key_sessions.specs.Calls.{after_call, find_label, is_ending, start_request}
 use Rattle.key_sessions.specs.Jobs.{after_job}
+use Rattle.key_sessions.specs.Evict.{after_evict}
 use Rattle.key_sessions.specs.Tasks.{after_task, after_tick}
 use Rattle.key_sessions.specs.Owed.{IsOwed, Asked, Steady}
 
@@ -27,6 +28,10 @@ TasksSettle = (m : Machine) → IsOwed m → Steady m (after_task m)
 -- the time settles nothing
 abbrev pub TicksKeep : Type 0
 TicksKeep = (m : Machine) (moment : ℕ) → IsOwed m → Steady m (after_tick moment m)
+
+-- an eviction settles nothing
+abbrev pub EvictionsKeep : Type 0
+EvictionsKeep = (m : Machine) (label : List ℕ) → IsOwed m → Steady m (after_evict label m)
 
 -- a request that came past its first two checks has ended uninitialized
 abbrev pub started_on : Machine → Option (ℕ × SessionState) → Machine

@@ -3,6 +3,7 @@ pub mod Keys
 pub mod Steps
 pub mod Calls
 pub mod Jobs
+pub mod Evict
 pub mod Tasks
 pub mod World
 pub mod Owed

@@ -6,7 +6,7 @@ use Rattle.eme_types.specs.declared.call.Effect.TheVariants.{Statuses, Closed, P
 use Rattle.task_queue.specs.declared.work.Job.{Job}
 use Rattle.task_queue.specs.declared.work.Job.TheVariants.{Request, Update, Close, Remove}
 use Rattle.task_queue.specs.declared.work.Task.{Task}
-use Rattle.task_queue.specs.declared.work.Task.TheVariants.{Reject, RequestDone, UpdateDone, CloseDone, RemoveDone, Report, Fire, Resume}
+use Rattle.task_queue.specs.declared.work.Task.TheVariants.{Reject, RequestDone, UpdateDone, CloseDone, RemoveDone, Evicted, Report, Fire, Resume}
 use Rattle.key_sessions.specs.Machine.{Machine}
 use Rattle.key_sessions.specs.Steps.{Done}
 
@@ -28,6 +28,7 @@ task_owes p (RequestDone n kids q) = one_if q p
 task_owes p (UpdateDone n changed q) = one_if q p
 task_owes p (CloseDone n q) = one_if q p
 task_owes p (RemoveDone n q) = one_if q p
+task_owes p (Evicted n) = 0
 task_owes p (Report n) = 0
 task_owes p (Fire event) = 0
 task_owes p Resume = 0
@@ -60,7 +61,7 @@ IsOwed m = (p : ℕ) → jobs_owe p m.jobs + tasks_owe p m.tasks ≡ pending m.p
 -- the effect settles the promise
 abbrev pub settles : ℕ → Effect → Bool
 settles p (Statuses n list) = false
-settles p (Closed n) = false
+settles p (Closed n reason) = false
 settles p (Promise q how) = q == p
 settles p (Fired event) = false
 

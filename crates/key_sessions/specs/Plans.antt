@@ -8,7 +8,7 @@ use Rattle.eme_types.specs.declared.call.Effect.{Effect}
 use Rattle.eme_types.specs.declared.call.Effect.TheVariants.{Promise}
 use Rattle.task_queue.specs.declared.work.Job.{Job}
 use Rattle.task_queue.specs.declared.work.Task.{Task}
-use Rattle.task_queue.specs.declared.work.Task.TheVariants.{Reject, RequestDone, UpdateDone, CloseDone, RemoveDone, Report, Fire, Resume}
+use Rattle.task_queue.specs.declared.work.Task.TheVariants.{Reject, RequestDone, UpdateDone, CloseDone, RemoveDone, Evicted, Report, Fire, Resume}
 use Rattle.task_queue.specs.Pending.{IsPending, settle_in}
 use Rattle.key_sessions.specs.declared.call_plan.Answer.{Answer}
 use Rattle.key_sessions.specs.declared.call_plan.Answer.TheVariants.{Now, Later}
@@ -72,6 +72,7 @@ settled_of (RequestDone n kids p) = Some (p, Resolved)
 settled_of (UpdateDone n changed p) = Some (p, Resolved)
 settled_of (CloseDone n p) = Some (p, Resolved)
 settled_of (RemoveDone n p) = Some (p, Resolved)
+settled_of (Evicted n) = None
 settled_of (Report n) = None
 settled_of (Fire event) = None
 settled_of Resume = None

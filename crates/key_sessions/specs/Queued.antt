@@ -2,32 +2,26 @@
 use Rattle.std.specs.Prelude.{ℕ, ◌≤◌, ◌<◌, length}
 use Rattle.cdm_world.specs.In.{In}
 use Rattle.task_queue.specs.declared.work.Job.{Job}
-use Rattle.task_queue.specs.declared.work.Job.TheVariants.{Request, Update, Close, Remove}
 use Rattle.task_queue.specs.declared.work.Task.{Task}
-use Rattle.task_queue.specs.declared.work.Task.TheVariants.{RequestDone, UpdateDone, CloseDone, RemoveDone}
+use Rattle.task_queue.specs.declared.work.Task.TheVariants.{RequestDone, UpdateDone, CloseDone, RemoveDone, Evicted}
 use Rattle.key_sessions.specs.Machine.{Machine}
+use Rattle.key_sessions.specs.Jobs.{job_session}
 
 -- one of so many sessions has the number
 abbrev pub IsNumber : ℕ → ℕ → Type 0
 IsNumber count n = (1 ≤ n) × (n ≤ count)
 
--- the session that a job was queued for
-abbrev pub job_session : Job → ℕ
-job_session (Request n kind init p) = n
-job_session (Update n response p) = n
-job_session (Close n p) = n
-job_session (Remove n p) = n
-
 -- the session of the job is one of so many
 abbrev pub IsJobOf : ℕ → Job → Type 0
 IsJobOf count job = IsNumber count (job_session job)
 
--- a request that is done names a key id; the session of an update, a close or a removal that is done is one of so many
+-- a request that is done names a key id; the session of an update, a close or a removal that is done, or of an eviction, is one of so many
 abbrev pub IsTaskOf : ℕ → Task → Type 0
 IsTaskOf count (RequestDone n kids p) = 0 < length kids
 IsTaskOf count (UpdateDone n changed p) = IsNumber count n
 IsTaskOf count (CloseDone n p) = IsNumber count n
 IsTaskOf count (RemoveDone n p) = IsNumber count n
+IsTaskOf count (Evicted n) = IsNumber count n
 IsTaskOf count task = Unit {0}
 
 -- the sessions of the queued jobs and tasks are there

@@ -3,13 +3,14 @@ use Rattle.std.specs.Prelude.{ℕ, true, List, [], ◌∷◌, ◌++◌, Option, 
 use Rattle.eme_types.specs.declared.call.Settled.{Settled}
 use Rattle.eme_types.specs.declared.call.Event.{Event}
 use Rattle.eme_types.specs.declared.call.Event.TheVariants.{KeyStatuses}
+use Rattle.eme_types.specs.declared.call.Reason.{Reason}
 use Rattle.eme_types.specs.declared.call.Effect.{Effect}
 use Rattle.eme_types.specs.declared.call.Effect.TheVariants.{Statuses, Closed, Promise, Fired}
 use Rattle.task_queue.specs.Pending.{settle_in}
 use Rattle.task_queue.specs.declared.work.Task.{Task}
 use Rattle.task_queue.specs.declared.work.Task.TheVariants.{Fire, Resume}
-use Rattle.key_statuses.specs.Statuses.{statuses, held_status}
-use Rattle.key_sessions.specs.Machine.{SessionState, Machine, session_at, change_session}
+use Rattle.key_statuses.specs.Statuses.{statuses}
+use Rattle.key_sessions.specs.Machine.{SessionState, Machine, session_at, status_at, change_session}
 
 -- what a step leaves and does: the state, and its effects in order
 pub record Done : Type 0 where
@@ -38,12 +39,12 @@ fire event d = record { machine = record (d.machine) { fired = d.machine.fired +
 
 -- a session's statuses now
 abbrev pub statuses_now : ℕ → SessionState → SessionState
-statuses_now moment s = record s { reported = statuses s.keys (held_status s.expiration moment) }
+statuses_now moment s = record s { reported = statuses s.keys (status_at moment s) }
 
 -- the statuses of the session's table now, if it is there
 abbrev pub report_of : ℕ → ℕ → Option SessionState → List Effect
 report_of n moment None = []
-report_of n moment (Some s) = Statuses n (statuses s.keys (held_status s.expiration moment)) ∷ []
+report_of n moment (Some s) = Statuses n (statuses s.keys (status_at moment s)) ∷ []
 
 -- the reported statuses of a session become those of its table now
 abbrev pub report : ℕ → Done → Done
@@ -57,6 +58,10 @@ and_queue task d = record d { machine = queue_task task d.machine }
 abbrev pub update_statuses : ℕ → Done → Done
 update_statuses n d = and_queue Resume (and_queue (Fire (KeyStatuses n)) (report n d))
 
--- Encrypted Media Extensions, 'Session Closed': the session's `closed` promise is settled here
-abbrev pub close_session : ℕ → Done → Done
-close_session n d = record { machine = with_session n (λ s. record s { closed = true }) d.machine; effects = d.effects ++ Closed n ∷ [] }
+-- the session is closed for the reason
+abbrev pub closed_for : Reason → SessionState → SessionState
+closed_for reason s = record s { closed = true; reason = Some reason }
+
+-- Encrypted Media Extensions, 'Session Closed': the session's `closed` promise is settled here, with the reason
+abbrev pub close_session : ℕ → Reason → Done → Done
+close_session n reason d = record { machine = with_session n (closed_for reason) d.machine; effects = d.effects ++ Closed n reason ∷ [] }

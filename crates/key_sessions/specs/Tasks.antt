@@ -2,11 +2,12 @@
 use Rattle.std.specs.Prelude.{ℕ, ◌+◌, ◌&&◌, not, Bool, true, if◌then◌else◌, List, [], ◌∷◌, ◌++◌, Option, Some, None, is_some, count_by}
 use Rattle.eme_types.specs.declared.call.Settled.TheVariants.{Resolved, Rejected}
 use Rattle.eme_types.specs.declared.call.Event.TheVariants.{Message}
+use Rattle.eme_types.specs.declared.call.Reason.TheVariants.{ClosedByApplication, ResourceEvicted}
 use Rattle.clearkey_json.specs.Request.{request_text}
 use Rattle.task_queue.specs.declared.work.Task.{Task}
-use Rattle.task_queue.specs.declared.work.Task.TheVariants.{Reject, RequestDone, UpdateDone, CloseDone, RemoveDone, Report, Fire, Resume}
-use Rattle.key_statuses.specs.Statuses.{statuses, held_status, same_statuses}
-use Rattle.key_sessions.specs.Machine.{SessionState, Machine, session_at}
+use Rattle.task_queue.specs.declared.work.Task.TheVariants.{Reject, RequestDone, UpdateDone, CloseDone, RemoveDone, Evicted, Report, Fire, Resume}
+use Rattle.key_statuses.specs.Statuses.{statuses, same_statuses}
+use Rattle.key_sessions.specs.Machine.{SessionState, Machine, session_at, status_at}
 use Rattle.key_sessions.specs.Steps.{Done, unmoved, queue_task, with_session, settle, fire, update_statuses, close_session}
 
 -- one more than the sessions that have an id
@@ -31,8 +32,9 @@ abbrev pub run_task : Task → Machine → Done
 run_task (Reject p error) m = settle p (Rejected error) (unmoved m)
 run_task (RequestDone n kids p) m = settle p Resolved (unmoved (request_done n kids m))
 run_task (UpdateDone n changed p) m = settle p Resolved (if changed then update_statuses n (unmoved m) else unmoved m)
-run_task (CloseDone n p) m = settle p Resolved (close_session n (update_statuses n (unmoved m)))
+run_task (CloseDone n p) m = settle p Resolved (close_session n ClosedByApplication (update_statuses n (unmoved m)))
 run_task (RemoveDone n p) m = settle p Resolved (update_statuses n (unmoved m))
+run_task (Evicted n) m = close_session n ResourceEvicted (update_statuses n (unmoved m))
 run_task (Report n) m = if is_closed (session_at m.sessions n) then unmoved m else update_statuses n (unmoved m)
 run_task (Fire event) m = fire event (unmoved m)
 run_task Resume m = unmoved m
@@ -48,7 +50,7 @@ after_task m = take_task m.tasks m
 
 -- the session is not closed, and its statuses differ between the two moments
 abbrev pub is_reported : ℕ → ℕ → SessionState → Bool
-is_reported old new s = not s.closed && not (same_statuses (statuses s.keys (held_status s.expiration old)) (statuses s.keys (held_status s.expiration new)))
+is_reported old new s = not s.closed && not (same_statuses (statuses s.keys (status_at old s)) (statuses s.keys (status_at new s)))
 
 -- the reports of these sessions, numbered from n, as the time goes from the old moment to the new
 abbrev pub reports_from : ℕ → ℕ → ℕ → List SessionState → List Task

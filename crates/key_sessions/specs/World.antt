@@ -2,7 +2,7 @@
 use Rattle.std.specs.Prelude.{ℕ, Bool, true, false, if◌then◌else◌, List, [], ◌∷◌, map}
 use Rattle.eme_types.specs.declared.call.Effect.{Effect}
 use Rattle.task_queue.specs.declared.work.Task.{Task as Queued}
-use Rattle.task_queue.specs.declared.work.Task.TheVariants.{Reject, RequestDone, UpdateDone, CloseDone, RemoveDone, Report, Fire, Resume}
+use Rattle.task_queue.specs.declared.work.Task.TheVariants.{Reject, RequestDone, UpdateDone, CloseDone, RemoveDone, Evicted, Report, Fire, Resume}
 use Rattle.key_sessions.specs.Machine.{Machine, empty_machine}
 use Rattle.key_sessions.specs.Keys.{pick}
 use Rattle.key_sessions.specs.Steps.{Done}
@@ -38,6 +38,7 @@ is_resume (RequestDone n kids p) = false
 is_resume (UpdateDone n changed p) = false
 is_resume (CloseDone n p) = false
 is_resume (RemoveDone n p) = false
+is_resume (Evicted n) = false
 is_resume (Report n) = false
 is_resume (Fire event) = false
 is_resume Resume = true

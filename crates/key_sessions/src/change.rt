@@ -4,7 +4,7 @@ ghost use Rattle.key_sessions.specs.SessionOf.{session_of};
 ghost use Rattle.key_sessions.specs.Changes.{changed, changed_in};
 
 use crate::session::Session;
-use eme_types::StatusList;
+use eme_types::{Reason, StatusList};
 use key_statuses::KeyTable;
 
 /// A change of a session, with all memory that it takes.
@@ -18,20 +18,24 @@ pub enum Change {
     },
     /// Its end was asked for.
     Closing,
-    /// It gets another table and expiration.
+    /// It gets another table, start and expiration.
     Keys {
         table: KeyTable,
+        start: Option<u64>,
         expiration: Option<u64>,
     },
     /// Its ids stay known, without their keys.
     Released,
+    /// It is evicted: its end is asked for, and no id stays known.
+    Evicted,
     /// Its reported statuses are replaced.
     Reported {
         list: StatusList,
     },
-    /// Its reported statuses are replaced, and it is closed.
+    /// Its reported statuses are replaced, and it is closed for the reason.
     Closed {
         list: StatusList,
+        reason: Reason,
     },
 }
 
@@ -45,18 +49,32 @@ fn change_one(session: &mut Session, change: Change)
             session.callable = true;
         }
         Change::Closing => session.closing = true,
-        Change::Keys { table, expiration } => {
+        Change::Keys {
+            table,
+            start,
+            expiration,
+        } => {
             session.keys = table;
+            session.start = start;
             session.expiration = expiration;
         }
         Change::Released => {
             session.keys.release_all();
+            session.start = None;
             session.expiration = None;
         }
+        Change::Evicted => {
+            session.keys.clear();
+            session.start = None;
+            session.expiration = None;
+            session.closing = true;
+            session.evicted = true;
+        }
         Change::Reported { list } => session.reported = list,
-        Change::Closed { list } => {
+        Change::Closed { list, reason } => {
             session.reported = list;
             session.closed = true;
+            session.reason = Some(reason);
         }
     }
 }

@@ -8,7 +8,7 @@ ghost use Rattle.key_statuses.specs.Statuses.{is_changed};
 ghost use Rattle.key_sessions.specs.SessionOf.{session_of};
 ghost use Rattle.key_sessions.specs.Machine.{Machine, session_at};
 ghost use Rattle.key_sessions.specs.Steps.{queue_task};
-ghost use Rattle.key_sessions.specs.Jobs.{request_job, update_job};
+ghost use Rattle.key_sessions.specs.Jobs.{request_job, update_job, work_job, job_session, job_promise};
 ghost use Rattle.key_sessions.specs.Plans.{IsJobPlan, job_done};
 ghost use Rattle.key_sessions.specs.Queued.{IsNumber, IsJobOf};
 
@@ -110,14 +110,15 @@ fn plan_grant(
     let changed = changed(
         alloc,
         session.keys.as_slice(),
-        held_status(session.expiration, moment),
+        held_status(session.start, session.expiration, moment),
         table.as_slice(),
-        held_status(set.expires, moment),
+        held_status(set.from, set.expires, moment),
     )?;
     Ok(JobPlan {
         session: number,
         change: Some(Change::Keys {
             table,
+            start: set.from,
             expiration: set.expires,
         }),
         task: Task::UpdateDone {
@@ -148,15 +149,15 @@ fn plan_update(
     plan_grant(alloc, number, session, &set, promise, moment)
 }
 
-/// What a job will do.
-pub fn plan_job(
+/// What a job of a session that was not evicted will do.
+fn plan_work(
     alloc: Global,
     job: &Job,
     sessions: &[Session],
     moment: u64,
 ) -> Result<JobPlan, AllocError>
     requires { IsJobOf (length sessions.now) job.now }
-    ensures { IfOk result (IsJobPlan job.now (map session_of sessions.now) moment) }
+    ensures { IfOk result (λ plan. (m : Machine) → m.sessions ≡ map session_of sessions.now → m.moment ≡ moment → job_done plan m ≡ work_job job.now m) }
 {
     match job {
         Job::Request {
@@ -174,6 +175,7 @@ pub fn plan_job(
             session: *session,
             change: Some(Change::Keys {
                 table: KeyTable::new(alloc),
+                start: None,
                 expiration: None,
             }),
             task: Task::CloseDone {
@@ -190,4 +192,44 @@ pub fn plan_job(
             },
         }),
     }
+}
+
+/// The session that a job was queued for.
+fn session_of_job(job: &Job) -> u32
+    ensures { result ≡ job_session job.now }
+{
+    match job {
+        Job::Request { session, .. } => *session,
+        Job::Update { session, .. } => *session,
+        Job::Close { session, .. } => *session,
+        Job::Remove { session, .. } => *session,
+    }
+}
+
+/// The promise that a job answers.
+fn promise_of_job(job: &Job) -> u64
+    ensures { result ≡ job_promise job.now }
+{
+    match job {
+        Job::Request { promise, .. } => *promise,
+        Job::Update { promise, .. } => *promise,
+        Job::Close { promise, .. } => *promise,
+        Job::Remove { promise, .. } => *promise,
+    }
+}
+
+/// What a job will do; that of an evicted session is refused.
+pub fn plan_job(
+    alloc: Global,
+    job: &Job,
+    sessions: &[Session],
+    moment: u64,
+) -> Result<JobPlan, AllocError>
+    requires { IsJobOf (length sessions.now) job.now }
+    ensures { IfOk result (IsJobPlan job.now (map session_of sessions.now) moment) }
+{
+    if numbered(sessions, session_of_job(job)).evicted {
+        return Ok(refuse(promise_of_job(job), DomError::InvalidState));
+    }
+    plan_work(alloc, job, sessions, moment)
 }

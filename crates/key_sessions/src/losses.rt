@@ -32,7 +32,10 @@ fn ended_with(
 ) -> Result<Vec<Lost>, AllocError>
     ensures { IfOk result (λ list. AreEnded number (usable_key moment (session_of session.now)) (λ kid. if session.now.closed then None else key_if usable table.now.keys kid) (map pair_of list.items)) }
 {
-    let was = open_and(session, usable_at(session.expiration, moment));
+    let was = open_and(
+        session,
+        usable_at(session.start, session.expiration, moment),
+    );
     let is = open_and(session, usable);
     let list = ended(alloc, number, &session.keys, was, table, is)?;
     Ok(list)
@@ -52,11 +55,20 @@ fn ended_by(
         Change::Started => Ok(Vec::new(alloc)),
         Change::Callable { .. } => Ok(Vec::new(alloc)),
         Change::Closing => Ok(Vec::new(alloc)),
-        Change::Keys { table, expiration } => {
-            let usable = usable_at(*expiration, moment);
+        Change::Keys {
+            table,
+            start,
+            expiration,
+        } => {
+            let usable = usable_at(*start, *expiration, moment);
             ended_with(alloc, number, session, table, usable, moment)
         }
         Change::Released => {
+            let none = KeyTable::new(alloc);
+            let list = ended_with(alloc, number, session, &none, true, moment)?;
+            Ok(list)
+        }
+        Change::Evicted => {
             let none = KeyTable::new(alloc);
             let list = ended_with(alloc, number, session, &none, true, moment)?;
             Ok(list)
@@ -102,7 +114,7 @@ fn expired(
 ) -> Result<Vec<Lost>, AllocError>
     ensures { IfOk result (λ list. AreEnded number (usable_key before (session_of session.now)) (usable_key after (session_of session.now)) (map pair_of list.items)) }
 {
-    if usable_at(session.expiration, after) {
+    if usable_at(session.start, session.expiration, after) {
         return Ok(Vec::new(alloc));
     }
     let list = ended_with(alloc, number, session, &session.keys, false, before)?;

@@ -2,13 +2,13 @@
 ghost use Rattle.std.specs.Prelude.{◌≡◌, ◌+◌, [], map, Some, None, IfOk, MatchOption, length};
 ghost use Rattle.key_sessions.specs.SessionOf.{session_of};
 ghost use Rattle.key_sessions.specs.Machine.{new_session, session_at};
-ghost use Rattle.key_sessions.specs.Keys.{usable_key};
+ghost use Rattle.key_sessions.specs.Keys.{usable_key, holds_later as later_holds};
 ghost use Rattle.key_sessions.specs.Calls.{is_ending, state_fault as fault_of_state, or_empty};
 ghost use Rattle.key_sessions.specs.Changes.{LabelFound};
 ghost use Rattle.key_sessions.specs.Queued.{IsNumber};
 
-use eme_types::{Bytes, Copies, DomError, KeyBytes, KeyId, StatusList};
-use key_statuses::{KeyTable, usable_at};
+use eme_types::{Bytes, Copies, DomError, KeyBytes, KeyId, Reason, Status, StatusList};
+use key_statuses::{KeyTable, held_status, usable_at};
 use std::alloc::{AllocError, Global};
 
 /// A session with its key table.
@@ -20,7 +20,10 @@ pub struct Session {
     pub callable: bool,
     pub closing: bool,
     pub closed: bool,
+    pub evicted: bool,
+    pub reason: Option<Reason>,
     pub keys: KeyTable,
+    pub start: Option<u64>,
     pub expiration: Option<u64>,
     pub reported: StatusList,
 }
@@ -37,7 +40,10 @@ pub fn labelled(alloc: Global, label: &Bytes) -> Result<Session, AllocError>
         callable: false,
         closing: false,
         closed: false,
+        evicted: false,
+        reason: None,
         keys: KeyTable::new(alloc),
+        start: None,
         expiration: None,
         reported: StatusList::new(alloc),
     })
@@ -121,9 +127,24 @@ pub fn usable(session: &Session, moment: u64, kid: &KeyId) -> Option<KeyBytes>
     if session.closed {
         return None;
     }
-    if usable_at(session.expiration, moment) {
+    if usable_at(session.start, session.expiration, moment) {
         session.keys.holds(kid)
     } else {
         None
+    }
+}
+
+/// Whether a session that is not closed holds under an id a key whose status is `usable-in-future`.
+pub fn holds_later(session: &Session, moment: u64, kid: &KeyId) -> bool
+    ensures { result ≡ later_holds moment kid.now (session_of session.now) }
+{
+    if session.closed {
+        return false;
+    }
+    match held_status(session.start, session.expiration, moment) {
+        Status::UsableInFuture => session.keys.holds(kid).is_some(),
+        Status::Usable => false,
+        Status::Expired => false,
+        Status::Released => false,
     }
 }

@@ -5,7 +5,7 @@ ghost use Rattle.task_queue.specs.declared.work.Task.TheVariants.{Fire};
 ghost use Rattle.key_statuses.specs.Picked.{picked};
 ghost use Rattle.key_sessions.specs.SessionsState.{SessionsState, HasStepped};
 ghost use Rattle.key_sessions.specs.Machine.{empty_machine};
-ghost use Rattle.key_sessions.specs.Keys.{pick, pick_from};
+ghost use Rattle.key_sessions.specs.Keys.{pick, pick_from, is_later};
 ghost use Rattle.key_sessions.specs.SessionOf.{session_of};
 ghost use Rattle.key_sessions.specs.LostPair.{pair_of};
 ghost use Rattle.key_sessions.specs.Owed.{IsOwed};
@@ -15,15 +15,16 @@ ghost use Rattle.key_sessions.specs.Plans.{MaySettle, settled_by, fired_by};
 ghost use Rattle.key_sessions.specs.Steps.{queue_task};
 ghost use Rattle.key_sessions.specs.Calls.{next_promise, after_call};
 ghost use Rattle.key_sessions.specs.Jobs.{after_job};
+ghost use Rattle.key_sessions.specs.Evict.{after_evict, evicts};
 ghost use Rattle.key_sessions.specs.Tasks.{after_task, after_tick};
 
 use crate::call_plan::{CallPlan, add_session, give_answer, plan_call, tell};
-use crate::change::change_session;
+use crate::change::{change_session, eviction};
 use crate::fault::StepFault;
 use crate::job_plan::{JobPlan, plan_job};
 use crate::losses::{lost_by, lost_in_time};
 use crate::lost::Lost;
-use crate::session::{Session, usable};
+use crate::session::{Session, holds_later, open_session, usable};
 use crate::step::{Step, no_step};
 use crate::task_plan::{TaskPlan, plan_task, plan_tick};
 use eme_types::{AppCall, Effect, Effects, Event, KeyId, Settled};
@@ -202,6 +203,39 @@ impl Sessions {
             lost,
         };
         Ok(())
+    }
+
+    /// The CDM ends the session with the label, if it is neither closing nor closed. It is told whether it was.
+    pub fn evict(&mut self, label: &[u8]) -> Result<bool, AllocError>
+        ensures ok { OnOk result (HasStepped self.old self.new (after_evict label.now self.old.machine)) }
+        ensures open { IfOk result (λ b. b ≡ evicts label.now self.old.machine) }
+        ensures err { OnErr result (self.new ≡ self.old) }
+    {
+        let found = open_session(&self.items, label);
+        let change = eviction(found);
+        let number = found.unwrap_or(0);
+        let lost = lost_by(self.alloc, &self.items, number, &change, self.moment)?;
+        let wanted = room_for(self.room, 1)?;
+        self.tasks.reserve(wanted)?;
+        change_session(&mut self.items, number, change);
+        if let Some(session) = found {
+            self.tasks.put(Task::Evicted { session });
+        }
+        self.last = Step {
+            effects: Effects::new(self.alloc),
+            lost,
+        };
+        Ok(found.is_some())
+    }
+
+    /// Whether a session that is not closed holds under an id a key that is usable later (Encrypted Media Extensions,
+    /// MediaKeyStatus `usable-in-future`).
+    pub fn later(&self, kid: &KeyId) -> bool
+        ensures { result ≡ is_later self.now.machine kid.now }
+    {
+        self.items
+            .iter()
+            .any(|session| holds_later(session, self.moment, kid))
     }
 
     /// What the last step did that the application can see, in order of happening, until it is taken.

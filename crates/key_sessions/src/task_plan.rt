@@ -3,6 +3,7 @@ ghost use Rattle.std.specs.Prelude.{◌≡◌, ◌+◌, ◌<◌, ◌≤◌, [], 
 ghost use Rattle.eme_types.specs.declared.limits.TheConstants.{MAX_SESSIONS};
 ghost use Rattle.eme_types.specs.declared.call.Settled.TheVariants.{Resolved};
 ghost use Rattle.eme_types.specs.declared.call.Event.TheVariants.{KeyStatuses};
+ghost use Rattle.eme_types.specs.declared.call.Reason.TheVariants.{ClosedByApplication};
 ghost use Rattle.task_queue.specs.declared.work.Task.TheVariants.{Report, Fire, Resume};
 ghost use Rattle.key_sessions.specs.SessionOf.{session_of};
 ghost use Rattle.key_sessions.specs.Machine.{Machine, session_at};
@@ -14,7 +15,7 @@ ghost use Rattle.key_sessions.specs.Queued.{IsNumber, IsTaskOf};
 use crate::change::Change;
 use crate::session::{Session, find_number, numbered};
 use clearkey_json::request_text;
-use eme_types::{Copies, Effect, Effects, Event, Kids, Settled};
+use eme_types::{Copies, Effect, Effects, Event, Kids, Reason, Settled};
 use key_statuses::same_statuses;
 use std::alloc::{AllocError, Global};
 use task_queue::Task;
@@ -144,7 +145,9 @@ fn plan_report(
     ensures plan { IfOk result (λ plan. (m : Machine) → session_at m.sessions number ≡ Some (session_of session.now) → m.moment ≡ moment → task_done plan m ≡ update_statuses number (unmoved m)) }
     ensures settles { IfOk result (λ plan. plan.settled ≡ None) }
 {
-    let list = session.keys.statuses(session.expiration, moment)?;
+    let list = session
+        .keys
+        .statuses(session.start, session.expiration, moment)?;
     let told = list.copy()?;
     let mut effects = Effects::new(alloc);
     effects.push(Effect::Statuses {
@@ -183,7 +186,43 @@ fn plan_done(
     Ok(plan)
 }
 
-/// The last report of a session, which is then closed.
+/// The last report of a session, which is then closed for the reason.
+fn plan_end(
+    alloc: Global,
+    sessions: &[Session],
+    number: u32,
+    reason: Reason,
+    moment: u64,
+) -> Result<TaskPlan, AllocError>
+    requires { IsNumber (length sessions.now) number }
+    ensures plan { IfOk result (λ plan. (m : Machine) → m.sessions ≡ map session_of sessions.now → m.moment ≡ moment → task_done plan m ≡ close_session number reason (update_statuses number (unmoved m))) }
+    ensures settles { IfOk result (λ plan. plan.settled ≡ None) }
+{
+    let session = numbered(sessions, number);
+    let list = session
+        .keys
+        .statuses(session.start, session.expiration, moment)?;
+    let told = list.copy()?;
+    let mut effects = Effects::new(alloc);
+    effects.push(Effect::Statuses {
+        session: number,
+        list: told,
+    })?;
+    effects.push(Effect::Closed {
+        session: number,
+        reason,
+    })?;
+    Ok(TaskPlan {
+        session: number,
+        change: Some(Change::Closed { list, reason }),
+        queued: report_tasks(alloc, number)?,
+        settled: None,
+        fired: None,
+        effects,
+    })
+}
+
+/// The last report of a session that the application closes, and the promise that it answers is resolved.
 fn plan_close(
     alloc: Global,
     sessions: &[Session],
@@ -192,30 +231,16 @@ fn plan_close(
     moment: u64,
 ) -> Result<TaskPlan, AllocError>
     requires { IsNumber (length sessions.now) number }
-    ensures plan { IfOk result (λ plan. (m : Machine) → m.sessions ≡ map session_of sessions.now → m.moment ≡ moment → task_done plan m ≡ settle promise Resolved (close_session number (update_statuses number (unmoved m)))) }
+    ensures plan { IfOk result (λ plan. (m : Machine) → m.sessions ≡ map session_of sessions.now → m.moment ≡ moment → task_done plan m ≡ settle promise Resolved (close_session number ClosedByApplication (update_statuses number (unmoved m)))) }
     ensures settles { IfOk result (λ plan. plan.settled ≡ Some (promise, Resolved)) }
 {
-    let session = numbered(sessions, number);
-    let list = session.keys.statuses(session.expiration, moment)?;
-    let told = list.copy()?;
-    let mut effects = Effects::new(alloc);
-    effects.push(Effect::Statuses {
-        session: number,
-        list: told,
-    })?;
-    effects.push(Effect::Closed { session: number })?;
-    effects.push(Effect::Promise {
+    let mut plan = plan_end(alloc, sessions, number, Reason::ClosedByApplication, moment)?;
+    plan.effects.push(Effect::Promise {
         promise,
         how: Settled::Resolved,
     })?;
-    Ok(TaskPlan {
-        session: number,
-        change: Some(Change::Closed { list }),
-        queued: report_tasks(alloc, number)?,
-        settled: Some((promise, Settled::Resolved)),
-        fired: None,
-        effects,
-    })
+    plan.settled = Some((promise, Settled::Resolved));
+    Ok(plan)
 }
 
 /// The report of a session's statuses, unless it is closed.
@@ -275,6 +300,9 @@ pub fn plan_task(
         Task::RemoveDone { session, promise } => {
             plan_done(alloc, sessions, *session, *promise, moment)
         }
+        Task::Evicted { session } => {
+            plan_end(alloc, sessions, *session, Reason::ResourceEvicted, moment)
+        }
         Task::Report { session } => plan_later(alloc, sessions, *session, moment),
         Task::Fire { event } => plan_fire(alloc, event),
         Task::Resume => Ok(plan_nothing(alloc)),
@@ -288,8 +316,12 @@ fn reports(session: &Session, before: u64, after: u64) -> Result<bool, AllocErro
     if session.closed {
         return Ok(false);
     }
-    let was = session.keys.statuses(session.expiration, before)?;
-    let is = session.keys.statuses(session.expiration, after)?;
+    let was = session
+        .keys
+        .statuses(session.start, session.expiration, before)?;
+    let is = session
+        .keys
+        .statuses(session.start, session.expiration, after)?;
     Ok(!same_statuses(was.as_slice(), is.as_slice()))
 }
 

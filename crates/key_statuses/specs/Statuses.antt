@@ -1,5 +1,5 @@
 -- The statuses of a key table at a moment (Encrypted Media Extensions, MediaKeyStatus and 'Update Key Statuses').
-use Rattle.std.specs.Prelude.{ℕ, Bool, true, false, ◌&&◌, not, if◌then◌else◌, List, [], ◌∷◌, map, Option, Some, None, nat_lt}
+use Rattle.std.specs.Prelude.{ℕ, Bool, true, false, ◌&&◌, not, if◌then◌else◌, List, [], ◌∷◌, map, Option, Some, None, nat_lt, nat_le}
 use Rattle.std.specs.List.Sorted.{IsStrictlySortedBy}
 use Rattle.std.specs.Ordering.{nat_cmp}
 use Rattle.std.specs.Str.{bytes_eq}
@@ -8,24 +8,40 @@ use Rattle.std.specs.declared.cmp.Ordering.{Ordering}
 use Rattle.std.specs.declared.cmp.Ordering.TheVariants.{Less, Equal, Greater}
 use Rattle.eme_types.specs.declared.kid.KeyBytes.{KeyBytes}
 use Rattle.eme_types.specs.declared.kid.Status.{Status}
-use Rattle.eme_types.specs.declared.kid.Status.TheVariants.{Usable, Expired, Released}
+use Rattle.eme_types.specs.declared.kid.Status.TheVariants.{Usable, Expired, Released, UsableInFuture}
 use Rattle.key_statuses.specs.declared.table.KnownKey.{KnownKey}
 
--- there is no expiration, or it is after the moment
-abbrev pub is_usable_at : Option ℕ → ℕ → Bool
-is_usable_at None moment = true
-is_usable_at (Some end) moment = nat_lt moment end
+-- there is no start, or it is not after the moment
+abbrev pub has_begun : Option ℕ → ℕ → Bool
+has_begun None moment = true
+has_begun (Some start) moment = nat_le start moment
 
--- the status of a key that is held: usable where there is no expiration or it is after the moment
-abbrev pub held_status : Option ℕ → ℕ → Status
-held_status None moment = Usable
-held_status (Some end) moment = if nat_lt moment end then Usable else Expired
+-- there is no expiration, or it is after the moment
+abbrev pub lasts : Option ℕ → ℕ → Bool
+lasts None moment = true
+lasts (Some end) moment = nat_lt moment end
+
+-- the start is none or not after the moment, and the expiration is none or after it
+abbrev pub is_usable_at : Option ℕ → Option ℕ → ℕ → Bool
+is_usable_at start expiration moment = has_begun start moment && lasts expiration moment
+
+-- the status of a key that is held: expired where there is an expiration not after the moment; else usable in future where the start is after the moment; else usable
+abbrev pub held_status : Option ℕ → Option ℕ → ℕ → Status
+held_status start expiration moment = if lasts expiration moment then (if has_begun start moment then Usable else UsableInFuture) else Expired
 
 -- the status is `Usable`
 abbrev pub is_usable : Status → Bool
 is_usable Usable = true
 is_usable Expired = false
 is_usable Released = false
+is_usable UsableInFuture = false
+
+-- the status is `UsableInFuture`
+abbrev pub is_usable_later : Status → Bool
+is_usable_later Usable = false
+is_usable_later Expired = false
+is_usable_later Released = false
+is_usable_later UsableInFuture = true
 
 -- the status of a known id, where its session's held keys have that status
 abbrev pub status_of : Option KeyBytes → Status → Status
@@ -87,12 +103,19 @@ abbrev pub same_status : Status → Status → Bool
 same_status Usable Usable = true
 same_status Usable Expired = false
 same_status Usable Released = false
+same_status Usable UsableInFuture = false
 same_status Expired Usable = false
 same_status Expired Expired = true
 same_status Expired Released = false
+same_status Expired UsableInFuture = false
 same_status Released Usable = false
 same_status Released Expired = false
 same_status Released Released = true
+same_status Released UsableInFuture = false
+same_status UsableInFuture Usable = false
+same_status UsableInFuture Expired = false
+same_status UsableInFuture Released = false
+same_status UsableInFuture UsableInFuture = true
 
 -- the lists have the same ids and statuses in the same order
 abbrev pub same_statuses : List (List ℕ × Status) → List (List ℕ × Status) → Bool

@@ -1,6 +1,6 @@
 // The statuses of a table, and whether they differ.
 ghost use Rattle.std.specs.Prelude.{◌≡◌, IfOk};
-ghost use Rattle.key_statuses.specs.Statuses.{statuses, status_of, is_usable, is_usable_at, held_status as status_held, comes_before, same_key as same_keys, same_table as same_tables, same_status as statuses_agree, same_statuses as lists_agree};
+ghost use Rattle.key_statuses.specs.Statuses.{statuses, status_of, is_usable, is_usable_at, has_begun as begun_at, lasts as lasts_at, held_status as status_held, comes_before, same_key as same_keys, same_table as same_tables, same_status as statuses_agree, same_statuses as lists_agree};
 ghost use Rattle.key_statuses.specs.Loops.{InsertsAt};
 
 use crate::table::KnownKey;
@@ -8,31 +8,45 @@ use eme_types::{Copies, Items, KeyBytes, KeyId, Status, StatusList};
 use std::alloc::{AllocError, Global};
 use std::cmp::Ordering;
 
-/// The status of a held key at a moment. Moments and expirations are milliseconds of one clock.
-pub fn held_status(expiration: Option<u64>, moment: u64) -> Status
-    ensures { result ≡ status_held expiration moment }
+fn has_begun(from: Option<u64>, moment: u64) -> bool
+    ensures { result ≡ begun_at from moment }
 {
-    match expiration {
-        None => Status::Usable,
-        Some(end) => {
-            if moment < end {
-                Status::Usable
-            } else {
-                Status::Expired
-            }
-        }
+    match from {
+        None => true,
+        Some(start) => start <= moment,
     }
 }
 
-/// Whether a held key is usable at a moment: there is no expiration, or it is after the moment.
-pub fn usable_at(expiration: Option<u64>, moment: u64) -> bool
-    ensures value { result ≡ is_usable_at expiration moment }
-    ensures status { result ≡ is_usable (status_held expiration moment) }
+fn lasts(expiration: Option<u64>, moment: u64) -> bool
+    ensures { result ≡ lasts_at expiration moment }
 {
     match expiration {
         None => true,
         Some(end) => moment < end,
     }
+}
+
+/// The status of a held key at a moment. Starts, expirations and moments are milliseconds of one clock.
+pub fn held_status(from: Option<u64>, expiration: Option<u64>, moment: u64) -> Status
+    ensures { result ≡ status_held from expiration moment }
+{
+    if !lasts(expiration, moment) {
+        return Status::Expired;
+    }
+    if has_begun(from, moment) {
+        Status::Usable
+    } else {
+        Status::UsableInFuture
+    }
+}
+
+/// Whether a held key is usable at a moment: its start is none or not after the moment, and its expiration is none or
+/// after it.
+pub fn usable_at(from: Option<u64>, expiration: Option<u64>, moment: u64) -> bool
+    ensures value { result ≡ is_usable_at from expiration moment }
+    ensures status { result ≡ is_usable (status_held from expiration moment) }
+{
+    has_begun(from, moment) && lasts(expiration, moment)
 }
 
 fn known_status(key: &Option<KeyBytes>, held: Status) -> Status
@@ -121,6 +135,7 @@ fn same_status(a: Status, b: Status) -> bool
         (Status::Usable, Status::Usable) => true,
         (Status::Expired, Status::Expired) => true,
         (Status::Released, Status::Released) => true,
+        (Status::UsableInFuture, Status::UsableInFuture) => true,
         _ => false,
     }
 }

@@ -76,12 +76,17 @@ impl KeyTable {
 
     /// The status of each known id at a moment, sorted by id octet by octet (Encrypted Media Extensions,
     /// MediaKeyStatusMap).
-    pub fn statuses(&self, expiration: Option<u64>, moment: u64) -> Result<StatusList, AllocError>
-        ensures exact { IfOk result (λ list. list ≡ statuses_in self.now.keys (status_held expiration moment)) }
+    pub fn statuses(
+        &self,
+        from: Option<u64>,
+        expiration: Option<u64>,
+        moment: u64,
+    ) -> Result<StatusList, AllocError>
+        ensures exact { IfOk result (λ list. list ≡ statuses_in self.now.keys (status_held from expiration moment)) }
         ensures sorted { IfOk result AreSorted }
-        ensures members { IfOk result (λ list. (s : List ℕ × Status) → In list s ↔ In (map (reported_as (status_held expiration moment)) self.now.keys) s) }
+        ensures members { IfOk result (λ list. (s : List ℕ × Status) → In list s ↔ In (map (reported_as (status_held from expiration moment)) self.now.keys) s) }
     {
-        let held = held_status(expiration, moment);
+        let held = held_status(from, expiration, moment);
         statuses_of(*self.known.allocator(), self.known.as_slice(), held)
     }
 
