@@ -36,7 +36,7 @@ pub fn claims_are_alone_in_the_window()
     ensures window { ClaimsInTheWindow }
 {}
 
-/// A track waits only at a protected sample without a live claim, and is looked at again once a session holds its key.
+/// A track waits only at a protected sample without a live claim, and is looked at again once a session holds its key usable.
 pub fn tracks_wait_only_for_keys()
     ensures { WaitsOnlyForKeys }
 {}
