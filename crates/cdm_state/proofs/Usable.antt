@@ -470,15 +470,17 @@ carries_end m n reason before ts = record {
 }
 
 -- a report queues a `Resume`, or its session is closed and holds nothing
-carries_report : (m : Machine) (n : ℕ) (ts : List Task) (b : Bool) → is_closed (session_at m.sessions n) ≡ b → Carries (Report n ∷ ts) m (if b then unmoved (record m { tasks = ts }) else update_statuses n (unmoved (record m { tasks = ts }))).machine
-carries_report m n ts true closed = record {
-  queued = λ session kid now e. elim (or_cases (n == session) (resume_queued session ts) e) [
-    | inl own ↦ absurd (closed_holds m.moment (session_at m.sessions session) kid (subst (λ (k : ℕ). is_closed (session_at m.sessions k) ≡ true) ((Decides-eqb n session).0 own) closed) now)
-    | inr rest ↦ rest
-  ];
-  held = λ session kid e. inl e;
-}
-carries_report m n ts false closed = record { queued = λ session kid now e. resumes_last n session ts; held = λ session kid e. inl (reported_no_more m n session kid e) }
+carries_report : (m : Machine) (n : ℕ) (ts : List Task) → Carries (Report n ∷ ts) m (run_task (Report n) (record m { tasks = ts })).machine
+carries_report m n ts = go (is_closed (session_at m.sessions n)) refl where
+  go : (b : Bool) → is_closed (session_at m.sessions n) ≡ b → Carries (Report n ∷ ts) m (if b then unmoved (record m { tasks = ts }) else update_statuses n (unmoved (record m { tasks = ts }))).machine
+  go true closed = record {
+    queued = λ session kid now e. elim (or_cases (n == session) (resume_queued session ts) e) [
+      | inl own ↦ absurd (closed_holds m.moment (session_at m.sessions session) kid (subst (λ (k : ℕ). is_closed (session_at m.sessions k) ≡ true) ((Decides-eqb n session).0 own) closed) now)
+      | inr rest ↦ rest
+    ];
+    held = λ session kid e. inl e;
+  }
+  go false closed = record { queued = λ session kid now e. resumes_last n session ts; held = λ session kid e. inl (reported_no_more m n session kid e) }
 
 pub carries_task : (m : Machine) (task : Task) (ts : List Task) → (task ≡ Resume → ⊥) → Carries (task ∷ ts) m (run_task task (record m { tasks = ts })).machine
 carries_task m (Reject p error) ts other = record { queued = λ session kid now e. e; held = λ session kid e. inl e }
@@ -494,6 +496,6 @@ carries_task m (UpdateDone n false p) ts other = record { queued = λ session ki
 carries_task m (CloseDone n p) ts other = carries_end m n ClosedByApplication (CloseDone n p ∷ ts) ts
 carries_task m (RemoveDone n p) ts other = record { queued = λ session kid now e. resumes_last n session ts; held = λ session kid e. inl (reported_no_more m n session kid e) }
 carries_task m (Evicted n) ts other = carries_end m n ResourceEvicted (Evicted n ∷ ts) ts
-carries_task m (Report n) ts other = carries_report m n ts (is_closed (session_at m.sessions n)) refl
+carries_task m (Report n) ts other = carries_report m n ts
 carries_task m (Fire event) ts other = record { queued = λ session kid now e. e; held = λ session kid e. inl e }
 carries_task m Resume ts other = absurd (other refl)
