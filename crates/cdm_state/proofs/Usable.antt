@@ -493,7 +493,7 @@ carries_task m (UpdateDone n true p) ts other = record {
   held = λ session kid e. inl (reported_no_more m n session kid e);
 }
 carries_task m (UpdateDone n false p) ts other = record { queued = λ session kid now e. e; held = λ session kid e. inl e }
-carries_task m (CloseDone n p) ts other = carries_end m n ClosedByApplication (CloseDone n p ∷ ts) ts
+carries_task m (CloseDone n p) ts other = (let c = carries_end m n ClosedByApplication (CloseDone n p ∷ ts) ts in record { queued = c.queued; held = c.held })
 carries_task m (RemoveDone n p) ts other = record { queued = λ session kid now e. resumes_last n session ts; held = λ session kid e. inl (reported_no_more m n session kid e) }
 carries_task m (Evicted n) ts other = carries_end m n ResourceEvicted (Evicted n ∷ ts) ts
 carries_task m (Report n) ts other = carries_report m n ts
