@@ -1,12 +1,11 @@
 -- Planned steps are the steps.
-use Rattle.std.proofs.Common.{◌≡◌, ◌∙◌, ℕ, ◌+◌, ◌≤◌, Bool, true, false, List, [], ◌∷◌, ◌++◌, length, Some, None, Ok, refl, ap, sym, subst, arith, append_assoc}
+use Rattle.std.proofs.Common.{◌≡◌, ◌∙◌, ℕ, ◌+◌, ◌≤◌, Bool, false, List, [], ◌∷◌, ◌++◌, length, Some, None, Ok, refl, ap, sym, subst, arith, append_assoc}
 use Rattle.std.specs.Prelude.{nat_lt, Option}
 use Rattle.std.proofs.lemmas.Bool.{le-ltb}
 use Rattle.std.proofs.lemmas.List.{append-nil}
 use Rattle.eme_types.specs.declared.limits.TheConstants.{MAX_SESSION_KIDS}
 use Rattle.eme_types.specs.declared.call.Settled.{Settled}
 use Rattle.eme_types.specs.declared.call.Event.{Event}
-use Rattle.eme_types.specs.declared.call.DomError.TheVariants.{InvalidState}
 use Rattle.eme_types.specs.declared.call.AppCall.{AppCall}
 use Rattle.eme_types.specs.declared.call.Effect.{Effect}
 use Rattle.task_queue.specs.declared.work.Job.{Job}
@@ -27,9 +26,9 @@ use Rattle.key_statuses.specs.Table.{grant_all}
 use Rattle.key_statuses.specs.Statuses.{is_changed, held_status}
 use Rattle.key_sessions.specs.Machine.{SessionState, Machine, session_at, status_at, change_session}
 use Rattle.key_sessions.specs.Keys.{held_in, held_key}
-use Rattle.key_sessions.specs.Steps.{Done, unmoved, queue_task}
+use Rattle.key_sessions.specs.Steps.{Done, unmoved}
 use Rattle.key_sessions.specs.Calls.{find_label, after_call}
-use Rattle.key_sessions.specs.Jobs.{update_job, with_set, work_job, job_session, job_promise, run_job, after_job}
+use Rattle.key_sessions.specs.Jobs.{update_job, with_set, after_job}
 use Rattle.key_sessions.specs.Evict.{evict_session, open_number, after_evict}
 use Rattle.key_sessions.specs.Tasks.{after_task, reports_from}
 use Rattle.key_sessions.specs.Owed.{task_owes, jobs_owe, tasks_owe, pending, IsOwed, one_if}
@@ -42,7 +41,7 @@ use Rattle.key_sessions.specs.Changes.{changed, changed_in}
 use Rattle.key_sessions.proofs.SessionLists.{change_alike, settle_last, length-change_session}
 use Rattle.key_sessions.proofs.LostKeys.{lost_none}
 use Rattle.key_sessions.proofs.Owed.{one_same, pending_some}
-use Rattle.key_sessions.proofs.Evictions.{evict_open, evict_none}
+use Rattle.key_sessions.proofs.Evictions.{evict_open}
 use Rattle.key_sessions.proofs.There.{there_job, there_evict, there_task, there_tick}
 use Rattle.key_sessions.proofs.OwedSteps.{called, steady_job, steady_evict, steady_front, steady_tick}
 
@@ -94,19 +93,9 @@ call_state m call plan ss ps js es is sis pis jis eis = rw (sis, pis, jis, eis) 
 pub job_state : (m : Machine) (job : Job) (js : List Job) (plan : JobPlan) (ss : List SessionState) (us : List Task) → m.jobs ≡ job ∷ js → IsJobPlan job m.sessions m.moment plan → ss ≡ changed_in m.sessions plan.session plan.change → us ≡ m.tasks ++ plan.task ∷ [] → (let d : Done = record { machine = record m { sessions = ss; jobs = js; tasks = us }; effects = [] } in d) ≡ after_job m
 job_state m job js plan ss us e is sis uis = rw (e, sis, uis) (ap (λ (x : Machine). unmoved x) (is (record m { jobs = js }) refl refl))
 
--- what a job does is its refusal, where its session was evicted, and else its work
-pub refused_as : (m : Machine) (job : Job) (s : SessionState) → session_at m.sessions (job_session job) ≡ Some s → s.evicted ≡ true → queue_task (Reject (job_promise job) InvalidState) m ≡ run_job job m
-refused_as m job s at is = rw (at, is) refl
-
-pub worked_as : (m : Machine) (job : Job) (s : SessionState) → session_at m.sessions (job_session job) ≡ Some s → s.evicted ≡ false → work_job job m ≡ run_job job m
-worked_as m job s at is = rw (at, is) refl
-
--- the state after an eviction that ends a session, and after one that ends none
+-- the state after an eviction that ends a session
 pub evict_state : (m : Machine) (label : List ℕ) (n : ℕ) (ss : List SessionState) (us : List Task) → open_number (find_label m label) ≡ Some n → ss ≡ change_session m.sessions n evict_session → us ≡ m.tasks ++ Evicted n ∷ [] → (let d : Done = record { machine = record m { sessions = ss; tasks = us }; effects = [] } in d) ≡ after_evict label m
 evict_state m label n ss us e sis uis = rw (sis, uis) (ap (λ (x : Machine). unmoved x) (sym (evict_open m (find_label m label) n e)))
-
-evict_state_none : (m : Machine) (label : List ℕ) → open_number (find_label m label) ≡ None → unmoved m ≡ after_evict label m
-evict_state_none m label e = ap (λ (x : Machine). unmoved x) (sym (evict_none m (find_label m label) e))
 
 -- what a step keeps
 length_changed : (ss : List SessionState) (n : ℕ) (change : Option Change) → length (changed_in ss n change) ≡ length ss
@@ -148,10 +137,6 @@ stepped_by old d m' es list e lost = record {
   lost = subst (λ (x : Done). AreLost (held_key old.machine) (held_key x.machine) list) e lost;
   room = refl;
 }
-
--- an eviction that ends no session tells nothing
-pub stepped_none : (old : SessionsState) (label : List ℕ) → open_number (find_label old.machine label) ≡ None → HasStepped old (record { machine = old.machine; effects = []; lost = []; room = old.room }) (after_evict label old.machine)
-stepped_none old label e = stepped_by old (after_evict label old.machine) old.machine [] [] (evict_state_none old.machine label e) (lost_none (held_key old.machine) (held_key old.machine) (λ n kid key at. at))
 
 pub stepped_call : (old : SessionsState) (call : AppCall) (m' : Machine) (es : List Effect) → (let r : Done = record { machine = m'; effects = es } in r) ≡ after_call call old.machine → HasStepped old (record { machine = m'; effects = es; lost = []; room = old.room }) (after_call call old.machine)
 stepped_call old call m' es e = record {

@@ -43,4 +43,4 @@ holds_later moment kid s = not s.closed && (is_usable_later (status_at moment s)
 
 -- some session that is not closed holds under the id a key that is usable later
 abbrev pub is_later : Machine → List ℕ → Bool
-is_later m kid = list_any (λ s. holds_later m.moment kid s) m.sessions
+is_later m kid = list_any (holds_later m.moment kid) m.sessions
