@@ -200,7 +200,7 @@ LOGS = [
     ("a promise is rejected that is resolved", "stands for 'promise 3 resolved'", say_effect(7, 0, "promise 3 rejected TypeError")),
     ("statuses in another order", f"stands for 'statuses 2 {I1}=usable {I2}=usable'", say_effect(30, 0, f"statuses 2 {I2}=usable {I1}=usable")),
     ("a status of before the expiry", f"stands for 'statuses 2 {I1}=expired", say_effect(54, 0, f"statuses 2 {I1}=usable {I2}=usable")),
-    ("a session that is closed untold", "stands for 'closed 1'", lambda log: log.at(24).effects.pop(1)),
+    ("a session that is closed untold", "stands for 'closed 1 closed-by-application'", lambda log: log.at(24).effects.pop(1)),
     ("effects in another order", "'promise 7 resolved' stands for 'statuses 1'", lambda log: log.at(24).effects.reverse()),
     ("an event that is not fired", "'event waitingforkey 1' is missing", lambda log: log.at(59).effects.clear()),
     ("an event of another track", "stands for 'event waitingforkey 1'", say_effect(59, 0, "event waitingforkey 2")),
@@ -242,8 +242,8 @@ TEXTS = [
     ("a key id in capitals", "is no entry 20", lambda text: once(text, f"claim 2 1 0 1 {I1}", f"claim 2 1 0 1 {I1.upper()}")),
     ("an entry of no known verb", "is no entry 12", lambda text: once(text, "settle 6", "rest 6")),
     ("a verdict that is none", "is no entry 26", lambda text: once(text, "20 stale", "20 late")),
-    ("an effect with one space", "'closed 1' is missing", lambda text: once(text, "  closed 1", " closed 1")),
-    ("an effect with three spaces", "stands for 'closed 1'", lambda text: once(text, "  closed 1", "   closed 1")),
+    ("an effect with one space", "'closed 1 closed-by-application' is missing", lambda text: once(text, "  closed 1", " closed 1")),
+    ("an effect with three spaces", "stands for 'closed 1 closed-by-application'", lambda text: once(text, "  closed 1", "   closed 1")),
 ]
 
 
