@@ -187,8 +187,7 @@ fn evict(alloc: Global, cdm: &mut Cdm, label: &str) -> Result<String, Fail>
 {
     let label = Bytes::from_slice(alloc, label.as_bytes())?;
     match cdm.evict(7, label) {
-        Ok(true) => Ok(String::from_str(alloc, "evicted")?),
-        Ok(false) => Ok(String::from_str(alloc, "not evicted")?),
+        Ok(evicted) => Ok(format!(in alloc; "{evicted}")?),
         Err(back) => Err(Fail::from(back.error)),
     }
 }

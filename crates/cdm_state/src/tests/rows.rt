@@ -43,8 +43,8 @@ job -> none
 /// The job of an evicted session rejects its promise.
 pub const EVICTED_BEFORE_ITS_JOB: &[u8] = br#"
 update a same -> promise 3
-evict b -> not evicted
-evict a -> evicted
+evict b -> false
+evict a -> true
 done -> nothing
 job -> done
 done -> nothing
@@ -198,10 +198,10 @@ output 0 -> nothing, waiting
 /// An evicted session's claim is stale, and it is evicted once.
 pub const EVICTED: &[u8] = br#"
 claim -> sample 0 of 1 under 1 with 2b at 12
-evict a -> evicted
+evict a -> true
 settle -> task
 deliver -> stale
-evict a -> not evicted
+evict a -> false
 publish -> not ready
 claim -> no work
 wait -> track 1
