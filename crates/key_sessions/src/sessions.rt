@@ -1,11 +1,12 @@
 // The sessions with their queues and promises.
 ghost use Rattle.std.specs.Prelude.{◌≡◌, ◌≤◌, ◌<◌, ◌+◌, ◌-◌, [], map, length, Some, OnOk, OnErr, IfOk, IsErrOf, IsTrue, ◌↔◌, ◌≢◌};
+ghost use Rattle.std.specs.List.{list_any};
 ghost use Rattle.eme_types.specs.declared.limits.TheConstants.{MAX_SESSIONS};
 ghost use Rattle.task_queue.specs.declared.work.Task.TheVariants.{Fire};
 ghost use Rattle.key_statuses.specs.Picked.{picked};
 ghost use Rattle.key_sessions.specs.SessionsState.{SessionsState, HasStepped};
 ghost use Rattle.key_sessions.specs.Machine.{empty_machine};
-ghost use Rattle.key_sessions.specs.Keys.{pick, pick_from, is_later};
+ghost use Rattle.key_sessions.specs.Keys.{pick, pick_from, holds_later as later_holds, is_later};
 ghost use Rattle.key_sessions.specs.SessionOf.{session_of};
 ghost use Rattle.key_sessions.specs.LostPair.{pair_of};
 ghost use Rattle.key_sessions.specs.Owed.{IsOwed};
@@ -19,7 +20,7 @@ ghost use Rattle.key_sessions.specs.Evict.{after_evict, evicts};
 ghost use Rattle.key_sessions.specs.Tasks.{after_task, after_tick};
 
 use crate::call_plan::{CallPlan, add_session, give_answer, plan_call, tell};
-use crate::change::{change_session, eviction};
+use crate::change::{Change, change_session};
 use crate::fault::StepFault;
 use crate::job_plan::{JobPlan, plan_job};
 use crate::losses::{lost_by, lost_in_time};
@@ -211,21 +212,21 @@ impl Sessions {
         ensures open { IfOk result (λ b. b ≡ evicts label.now self.old.machine) }
         ensures err { OnErr result (self.new ≡ self.old) }
     {
-        let found = open_session(&self.items, label);
-        let change = eviction(found);
-        let number = found.unwrap_or(0);
-        let lost = lost_by(self.alloc, &self.items, number, &change, self.moment)?;
+        let Some(session) = open_session(&self.items, label) else {
+            self.last = no_step(self.alloc);
+            return Ok(false);
+        };
+        let change = Some(Change::Evicted);
+        let lost = lost_by(self.alloc, &self.items, session, &change, self.moment)?;
         let wanted = room_for(self.room, 1)?;
         self.tasks.reserve(wanted)?;
-        change_session(&mut self.items, number, change);
-        if let Some(session) = found {
-            self.tasks.put(Task::Evicted { session });
-        }
+        change_session(&mut self.items, session, change);
+        self.tasks.put(Task::Evicted { session });
         self.last = Step {
             effects: Effects::new(self.alloc),
             lost,
         };
-        Ok(found.is_some())
+        Ok(true)
     }
 
     /// Whether a session that is not closed holds under an id a key that is usable later (Encrypted Media Extensions,
@@ -233,9 +234,7 @@ impl Sessions {
     pub fn later(&self, kid: &KeyId) -> bool
         ensures { result ≡ is_later self.now.machine kid.now }
     {
-        self.items
-            .iter()
-            .any(|session| holds_later(session, self.moment, kid))
+        any_later(&self.items, self.moment, kid)
     }
 
     /// What the last step did that the application can see, in order of happening, until it is taken.
@@ -377,6 +376,14 @@ fn is_resume(task: &Task) -> bool
         Task::Resume => true,
         _ => false,
     }
+}
+
+fn any_later(sessions: &[Session], moment: u64, kid: &KeyId) -> bool
+    ensures { result ≡ list_any (λ s. later_holds moment kid.now (session_of s)) sessions.now }
+{
+    sessions
+        .iter()
+        .any(|session| holds_later(session, moment, kid))
 }
 
 fn choose_in(sessions: &[Session], moment: u64, kid: &KeyId) -> Option<Pick>
