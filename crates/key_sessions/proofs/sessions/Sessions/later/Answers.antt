@@ -1,4 +1,4 @@
-use Rattle.std.proofs.Common.{◌≡◌, ◌∙◌, sym, rules}
+use Rattle.std.proofs.Common.{◌≡◌, ◌∙◌, sym}
 use Rattle.std.specs.List.{list_any}
 use Rattle.key_sessions.specs.SessionOf.{session_of}
 use Rattle.key_sessions.specs.Keys.{holds_later}
