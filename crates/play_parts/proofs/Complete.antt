@@ -5,7 +5,7 @@ use Rattle.std.proofs.lemmas.List.{length-drop}
 use Rattle.eme_types.specs.declared.media.Fragment.{Fragment}
 use Rattle.eme_types.specs.declared.media.Media.{Media}
 use Rattle.eme_types.specs.declared.entry.Entry.{Entry}
-use Rattle.eme_types.specs.declared.entry.Entry.TheVariants.{Call, Tick, Feed, Settle}
+use Rattle.eme_types.specs.declared.entry.Entry.TheVariants.{Call, Tick, Feed, Evict, Settle}
 use Rattle.script_lang.specs.declared.script.Line.{Line}
 use Rattle.cdm_state.specs.History.{world, IsLegal, AtRest}
 use Rattle.output_order.specs.Lane.{lines_in, lane, asked, asked_in, fed_by, feeds_in}
@@ -27,6 +27,7 @@ crew_line : (k i : ℕ) (e : Entry) → IsOfCrew k e → line_at i e ≡ []
 crew_line k i (Call lane line call) w = absurd w
 crew_line k i (Tick line moment) w = absurd w
 crew_line k i (Feed line fragment) w = absurd w
+crew_line k i (Evict line label) w = absurd w
 crew_line k i (Settle line) w = absurd w
 crew_line k i e w = refl
 
@@ -34,6 +35,7 @@ crew_asked : (k : ℕ) (e : Entry) → IsOfCrew k e → asked e ≡ []
 crew_asked k (Call lane line call) w = absurd w
 crew_asked k (Tick line moment) w = absurd w
 crew_asked k (Feed line fragment) w = absurd w
+crew_asked k (Evict line label) w = absurd w
 crew_asked k (Settle line) w = absurd w
 crew_asked k e w = refl
 

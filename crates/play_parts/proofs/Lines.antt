@@ -9,7 +9,7 @@ use Rattle.eme_types.specs.declared.entry.Entry.{Entry}
 use Rattle.eme_types.specs.declared.entry.Entry.TheVariants.{Call, Tick}
 use Rattle.script_lang.specs.declared.script.Line.{Line}
 use Rattle.script_lang.specs.declared.script.Action.{Action}
-use Rattle.script_lang.specs.declared.script.Action.TheVariants.{Ask, Feed as FeedAction, Clock, Settle as SettleAction}
+use Rattle.script_lang.specs.declared.script.Action.TheVariants.{Ask, Feed as FeedAction, Clock, Evict as EvictAction, Settle as SettleAction}
 use Rattle.script_lang.specs.Script.{IsScript, moment_after}
 use Rattle.output_order.specs.Lane.{line_of, lines_in, lane, asked, asked_in, feeds_in, fed_by}
 use Rattle.output_order.specs.Complete.{IsOfLine}
@@ -62,6 +62,7 @@ fed_by_action : (fragments left : List Fragment) (es more : List Entry) (number 
 fed_by_action fragments left es more number lane (Ask call) is fed = fed_kept fragments left es more is fed
 fed_by_action fragments left es more number lane FeedAction is fed = fed_more fragments left es more is fed
 fed_by_action fragments left es more number lane (Clock moment) is fed = fed_kept fragments left es more is fed
+fed_by_action fragments left es more number lane (EvictAction label) is fed = fed_kept fragments left es more is fed
 fed_by_action fragments left es more number lane SettleAction is fed = fed_kept fragments left es more is fed
 
 ticks_more : (last moment number lane : ℕ) (action : Action) (given : Option Fragment) (news steps : Placed) (place : ℕ) → moment ≡ moment_after last action → last ≤ moment → AreSteps steps → NoneAbove last news → NoneAbove moment (news ++ (steps ++ (place, entry_for number lane action given) ∷ []))

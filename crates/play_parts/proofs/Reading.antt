@@ -5,7 +5,7 @@ use Rattle.std.specs.List.{flat_map, list_all, AllByRecursion}
 use Rattle.std.proofs.lemmas.List.Concat.{flat_map-append}
 use Rattle.std.proofs.lemmas.List.Elements.{filter-append, All-contains, All-from_recursion, Contains-push_cases}
 use Rattle.eme_types.specs.declared.entry.Entry.{Entry}
-use Rattle.eme_types.specs.declared.entry.Entry.TheVariants.{Call, Tick, Feed, Settle}
+use Rattle.eme_types.specs.declared.entry.Entry.TheVariants.{Call, Tick, Feed, Evict, Settle}
 use Rattle.script_lang.specs.declared.script.Line.{Line}
 use Rattle.output_order.specs.Lane.{line_of, lines_in, lane, is_of_lane, asked, asked_in, fed_by, feeds_in}
 use Rattle.output_order.proofs.Sizes.{some_same}
@@ -80,6 +80,7 @@ asked_lines : (e : Entry) → flat_map line_of (asked e) ≡ line_of e
 asked_lines (Call lane line call) = append-nil (line_of (Call lane line call))
 asked_lines (Tick line moment) = append-nil (line_of (Tick line moment))
 asked_lines (Feed line fragment) = append-nil (line_of (Feed line fragment))
+asked_lines (Evict line label) = append-nil (line_of (Evict line label))
 asked_lines (Settle line) = append-nil (line_of (Settle line))
 asked_lines e = refl
 

@@ -11,7 +11,7 @@ use Rattle.eme_types.specs.declared.entry.Entry.TheVariants.{Tick}
 use Rattle.eme_types.specs.declared.limits.TheConstants.{MAX_MOMENT}
 use Rattle.script_lang.specs.declared.script.Line.{Line}
 use Rattle.script_lang.specs.declared.script.Action.{Action}
-use Rattle.script_lang.specs.declared.script.Action.TheVariants.{Ask, Feed as FeedAction, Clock, Settle as SettleAction}
+use Rattle.script_lang.specs.declared.script.Action.TheVariants.{Ask, Feed as FeedAction, Clock, Evict as EvictAction, Settle as SettleAction}
 use Rattle.script_lang.specs.Script.{IsScript, numbers_rise, lane_fits, moment_fits, moment_after, moments_rise}
 use Rattle.output_order.specs.Lane.{line_with, line_of, lane, is_of_lane, asked}
 use Rattle.output_order.specs.Complete.{IsOfLine}
@@ -43,6 +43,7 @@ asks_as : (number : ℕ) (action : Action) → IsTrue (lane_fits number action) 
 asks_as number (Ask call) fits other = (call, refl)
 asks_as number FeedAction fits other = absurd (other (eqb-true number 0 fits))
 asks_as number (Clock moment) fits other = absurd (other (eqb-true number 0 fits))
+asks_as number (EvictAction label) fits other = absurd (other (eqb-true number 0 fits))
 asks_as number SettleAction fits other = absurd (other (eqb-true number 0 fits))
 
 -- a line of a lane other than 0 asks for a call
@@ -63,6 +64,7 @@ rises_by : (last : ℕ) (action : Action) → IsTrue (moment_fits last action) �
 rises_by last (Ask call) fits = omega arith
 rises_by last FeedAction fits = omega arith
 rises_by last (Clock moment) fits = leb-true last moment (both_true (nat_le last moment) (nat_le moment MAX_MOMENT) fits).0
+rises_by last (EvictAction label) fits = omega arith
 rises_by last SettleAction fits = omega arith
 
 -- the moment does not go back
@@ -100,34 +102,40 @@ pub line_back : (number lane : ℕ) (action : Action) (given : Option Fragment) 
 line_back number lane (Ask call) given above fits = line_above number lane (Ask call) above
 line_back number lane FeedAction given above fits = at_lane_0 number lane FeedAction above fits
 line_back number lane (Clock moment) given above fits = at_lane_0 number lane (Clock moment) above fits
+line_back number lane (EvictAction label) given above fits = at_lane_0 number lane (EvictAction label) above fits
 line_back number lane SettleAction given above fits = at_lane_0 number lane SettleAction above fits
 
 pub asked_back : (number lane : ℕ) (action : Action) (given : Option Fragment) → asked (entry_for number lane action given) ≡ entry_for number lane action given ∷ []
 asked_back number lane (Ask call) given = refl
 asked_back number lane FeedAction given = refl
 asked_back number lane (Clock moment) given = refl
+asked_back number lane (EvictAction label) given = refl
 asked_back number lane SettleAction given = refl
 
 pub above_back : (number lane : ℕ) (action : Action) (given : Option Fragment) → number ≢ 0 → IsOfLine (entry_for number lane action given)
 above_back number lane (Ask call) given above = above
 above_back number lane FeedAction given above = above
 above_back number lane (Clock moment) given above = above
+above_back number lane (EvictAction label) given above = above
 above_back number lane SettleAction given above = above
 
 pub of_lane_0_back : (number lane : ℕ) (action : Action) (given : Option Fragment) → lane ≡ 0 → IsOfLane0 (entry_for number lane action given)
 of_lane_0_back number lane (Ask call) given is = is
 of_lane_0_back number lane FeedAction given is = tt
 of_lane_0_back number lane (Clock moment) given is = tt
+of_lane_0_back number lane (EvictAction label) given is = tt
 of_lane_0_back number lane SettleAction given is = tt
 
 pub no_claim_back : (number lane : ℕ) (action : Action) (given : Option Fragment) → IsAnyClaim (entry_for number lane action given) → ⊥
 no_claim_back number lane (Ask call) given h = h
 no_claim_back number lane FeedAction given h = h
 no_claim_back number lane (Clock moment) given h = h
+no_claim_back number lane (EvictAction label) given h = h
 no_claim_back number lane SettleAction given h = h
 
 pub tick_back : (last number lane : ℕ) (action : Action) (given : Option Fragment) (line m : ℕ) → entry_for number lane action given ≡ Tick line m → m ≤ moment_after last action
 tick_back last number lane (Ask call) given line m e = absurd cc
 tick_back last number lane FeedAction given line m e = absurd cc
 tick_back last number lane (Clock moment) given line m e = let same : m ≡ moment = cc in omega (arith, same)
+tick_back last number lane (EvictAction label) given line m e = absurd cc
 tick_back last number lane SettleAction given line m e = absurd cc

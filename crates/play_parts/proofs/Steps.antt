@@ -2,7 +2,7 @@
 use Rattle.std.proofs.Common.{◌≡◌, ℕ, List, [], ◌∷◌, ◌++◌, Contains, refl, ap, sym, subst, ⊎_elim}
 use Rattle.std.proofs.lemmas.List.Elements.{Contains-append_left, Contains-append_right, Contains-append_cases, Contains-push, Contains-push_cases}
 use Rattle.eme_types.specs.declared.entry.Entry.{Entry}
-use Rattle.eme_types.specs.declared.entry.Entry.TheVariants.{Call, Tick, Feed, Claim, Deliver, GiveUp, Settle}
+use Rattle.eme_types.specs.declared.entry.Entry.TheVariants.{Call, Tick, Feed, Evict, Claim, Deliver, GiveUp, Settle}
 use Rattle.eme_types.specs.declared.entry.Verdict.{Verdict}
 use Rattle.output_order.specs.Lane.{line_of, asked, fed_by}
 use Rattle.decrypt_workers.specs.Desks.{Placed}
@@ -56,6 +56,7 @@ pub step_line : (e : Entry) → IsStep e → line_of e ≡ []
 step_line (Call lane line call) s = absurd s
 step_line (Tick line moment) s = absurd s
 step_line (Feed line fragment) s = absurd s
+step_line (Evict line label) s = absurd s
 step_line (GiveUp place) s = absurd s
 step_line (Settle line) s = absurd s
 step_line e s = refl
@@ -64,6 +65,7 @@ pub step_asked : (e : Entry) → IsStep e → asked e ≡ []
 step_asked (Call lane line call) s = absurd s
 step_asked (Tick line moment) s = absurd s
 step_asked (Feed line fragment) s = absurd s
+step_asked (Evict line label) s = absurd s
 step_asked (GiveUp place) s = absurd s
 step_asked (Settle line) s = absurd s
 step_asked e s = refl
@@ -72,6 +74,7 @@ pub step_feeds : (e : Entry) → IsStep e → fed_by e ≡ []
 step_feeds (Call lane line call) s = absurd s
 step_feeds (Tick line moment) s = absurd s
 step_feeds (Feed line fragment) s = absurd s
+step_feeds (Evict line label) s = absurd s
 step_feeds (GiveUp place) s = absurd s
 step_feeds (Settle line) s = absurd s
 step_feeds e s = refl
@@ -80,6 +83,7 @@ pub step_of_lane_0 : (e : Entry) → IsStep e → IsOfLane0 e
 step_of_lane_0 (Call lane line call) s = absurd s
 step_of_lane_0 (Tick line moment) s = absurd s
 step_of_lane_0 (Feed line fragment) s = absurd s
+step_of_lane_0 (Evict line label) s = absurd s
 step_of_lane_0 (Claim worker track index session kid) s = s
 step_of_lane_0 (GiveUp place) s = absurd s
 step_of_lane_0 (Settle line) s = absurd s

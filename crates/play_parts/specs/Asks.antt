@@ -3,11 +3,11 @@ use Rattle.std.specs.Prelude.{ℕ, ◌≡◌, ◌<◌, List, drop, Option}
 use Rattle.std.specs.List.{fold}
 use Rattle.eme_types.specs.declared.media.Fragment.{Fragment}
 use Rattle.eme_types.specs.declared.entry.Entry.{Entry}
-use Rattle.eme_types.specs.declared.entry.Entry.TheVariants.{Call, Job, Task, Tick, Feed, Claim, Deliver, GiveUp, Publish, PassClear, WaitForKey, Settle}
+use Rattle.eme_types.specs.declared.entry.Entry.TheVariants.{Call, Job, Task, Tick, Feed, Evict, Claim, Deliver, GiveUp, Publish, PassClear, WaitForKey, Settle}
 use Rattle.eme_types.specs.declared.limits.TheConstants.{MAX_LANES}
 use Rattle.script_lang.specs.declared.script.Line.{Line}
 use Rattle.script_lang.specs.declared.script.Action.{Action}
-use Rattle.script_lang.specs.declared.script.Action.TheVariants.{Ask, Feed as FeedAction, Clock, Settle as SettleAction}
+use Rattle.script_lang.specs.declared.script.Action.TheVariants.{Ask, Feed as FeedAction, Clock, Evict as EvictAction, Settle as SettleAction}
 use Rattle.script_lang.specs.Script.{moment_after}
 
 -- the entry of an action; a feed gives the fragment
@@ -15,6 +15,7 @@ abbrev pub entry_for : ℕ → ℕ → Action → Option Fragment → Entry
 entry_for number lane (Ask call) given = Call lane number call
 entry_for number lane FeedAction given = Feed number given
 entry_for number lane (Clock moment) given = Tick number moment
+entry_for number lane (EvictAction label) given = Evict number label
 entry_for number lane SettleAction given = Settle number
 
 -- the entry of a line
@@ -28,6 +29,7 @@ IsStep Job = Unit {0}
 IsStep Task = Unit {0}
 IsStep (Tick line moment) = ⊥
 IsStep (Feed line fragment) = ⊥
+IsStep (Evict line label) = ⊥
 IsStep (Claim worker track index session kid) = worker ≡ 0
 IsStep (Deliver place verdict) = Unit {0}
 IsStep (GiveUp place) = ⊥
@@ -48,6 +50,7 @@ abbrev pub left_by : List Fragment → Action → List Fragment
 left_by left (Ask call) = left
 left_by left FeedAction = drop 1 left
 left_by left (Clock moment) = left
+left_by left (EvictAction label) = left
 left_by left SettleAction = left
 
 -- the moment, one line on

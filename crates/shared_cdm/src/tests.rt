@@ -6,7 +6,7 @@ mod calls;
 
 use crate::shared::SharedCdm;
 use book_lock::Pass;
-use calls::{ask, creation, feed_nothing, job, two_threads, works};
+use calls::{ask, creation, evict, feed_nothing, job, label, two_threads, works};
 use cdm_state::{Cdm, StepFault};
 use eme_types::{Entry, TrackIds};
 use std::alloc::Global;
@@ -61,6 +61,36 @@ fn passes_are_joined_in_another_order(rt: HostRuntime) -> Result<(), Fail> {
     shared.join(&mut second, first);
     let cdm = shared.close(second).ok().ok_or(NO_MEMORY)?;
     assert!(rt; created && fed && is_created_and_fed(cdm.history()));
+    Ok(())
+}
+
+/// Whether the history is a call and two evictions of the label `a`.
+fn is_created_and_evicted_twice(history: &[Entry]) -> bool {
+    match history {
+        [
+            Entry::Call { .. },
+            Entry::Evict { line: first, label },
+            Entry::Evict { line: second, .. },
+        ] => { *first == 4 && *second == 4 && label.as_slice() == b"a".as_slice() }
+        _ => false,
+    }
+}
+
+#[test]
+fn a_pass_evicts_a_session_once(rt: HostRuntime) -> Result<(), Fail> {
+    let alloc = rt.alloc();
+    let call = creation(alloc)?;
+    let (once, again) = (label(alloc)?, label(alloc)?);
+    let (shared, mut first) = opened(alloc)?;
+    let second = shared.split(&mut first);
+    let (mut first, created) = ask(&rt, &shared, first, call);
+    // The second pass owns no place.
+    let (second, ended) = evict(&rt, &shared, second, once);
+    let (second, nothing) = evict(&rt, &shared, second, again);
+    shared.join(&mut first, second);
+    let cdm = shared.close(first).ok().ok_or(NO_MEMORY)?;
+    assert!(rt; created && ended == Some(true) && nothing == Some(false));
+    assert!(rt; is_created_and_evicted_twice(cdm.history()));
     Ok(())
 }
 

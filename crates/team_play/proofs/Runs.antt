@@ -10,7 +10,7 @@ use Rattle.eme_types.specs.declared.entry.Entry.{Entry}
 use Rattle.eme_types.specs.declared.entry.Entry.TheVariants.{Call, Feed, Settle}
 use Rattle.script_lang.specs.declared.script.Line.{Line}
 use Rattle.script_lang.specs.declared.script.Action.{Action}
-use Rattle.script_lang.specs.declared.script.Action.TheVariants.{Ask, Feed as FeedAction, Clock, Settle as SettleAction}
+use Rattle.script_lang.specs.declared.script.Action.TheVariants.{Ask, Feed as FeedAction, Clock, Evict as EvictAction, Settle as SettleAction}
 use Rattle.script_lang.specs.Script.{IsScript}
 use Rattle.cdm_state.specs.Run.{Run}
 use Rattle.cdm_state.specs.Does.{SettleDoes}
@@ -86,6 +86,7 @@ may_lead_by : (script : List Line) (n : ℕ) (line : Line) (action : Action) (me
 may_lead_by script n line (Ask call) media left ids news s at is valid same led = tt
 may_lead_by script n line FeedAction media left ids news s at is valid same led = may_feed media ids left (entries news) valid same led.fed
 may_lead_by script n line (Clock moment) media left ids news s at is valid same led = led_clock script n line moment media.fragments left news s at is led
+may_lead_by script n line (EvictAction label) media left ids news s at is valid same led = tt
 may_lead_by script n line SettleAction media left ids news s at is valid same led = tt
 
 pub may_lead : {g : Ghosts Run Entry} (shared : SharedCdm) (script : List Line) (n : ℕ) (line : Line) (media : Media) (fragments left : List Fragment) (p q : Pass Run Entry g) → IsScript script → slice_get script n ≡ Some line → IsFed media → tracks_of p ≡ media.tracks → fragments ≡ media.fragments → Leads shared script n fragments left p q → MayLead (tracks_of q) (own q) line.action (slice_get left 0)

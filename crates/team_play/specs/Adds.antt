@@ -5,7 +5,7 @@ use Rattle.eme_types.specs.declared.media.Fragment.{Fragment}
 use Rattle.eme_types.specs.declared.entry.Entry.{Entry}
 use Rattle.eme_types.specs.declared.entry.Entry.TheVariants.{Settle}
 use Rattle.script_lang.specs.declared.script.Action.{Action}
-use Rattle.script_lang.specs.declared.script.Action.TheVariants.{Ask, Feed as FeedAction, Clock, Settle as SettleAction}
+use Rattle.script_lang.specs.declared.script.Action.TheVariants.{Ask, Feed as FeedAction, Clock, Evict as EvictAction, Settle as SettleAction}
 use Rattle.cdm_state.specs.Run.{Run}
 use Rattle.cdm_state.specs.History.{world, AtRest, MayFeedNext}
 use Rattle.book_lock.specs.declared.book.Book.{Ghosts}
@@ -49,6 +49,7 @@ abbrev pub MayLead : List ℕ → Placed → Action → Option Fragment → Type
 MayLead ids own (Ask call) given = Unit {0}
 MayLead ids own FeedAction given = MayFeedNext ids (entries own) given
 MayLead ids own (Clock moment) given = NoneAbove moment own
+MayLead ids own (EvictAction label) given = Unit {0}
 MayLead ids own SettleAction given = Unit {0}
 
 -- what every pass keeps, also one by which no call was made: the shared core, its parts, the tracks, and whether it owns place 0

@@ -1,9 +1,9 @@
-// Lane 0: it alone feeds, sets the clock and settles.
+// Lane 0: it alone feeds, sets the clock, evicts and settles.
 ghost use Rattle.std.specs.Prelude.{◌≡◌, ◌<◌, ◌++◌, [], OnOk, IfOk, slice_get, drop};
 ghost use mathlib.Core.List.{IsPrefix};
 ghost use Rattle.eme_types.specs.Fed.{IsFed};
 ghost use Rattle.eme_types.specs.declared.media.Media.{Media};
-ghost use Rattle.eme_types.specs.declared.entry.Entry.TheVariants.{Feed as FeedEntry};
+ghost use Rattle.eme_types.specs.declared.entry.Entry.TheVariants.{Feed as FeedEntry, Evict as EvictEntry};
 ghost use Rattle.cdm_state.specs.History.{world, AtRest, MayFeedNext};
 ghost use Rattle.decrypt_workers.specs.Desks.{Placed};
 ghost use Rattle.shared_cdm.specs.Own.{entries};
@@ -16,7 +16,7 @@ use crate::lane::make_call;
 use crate::steps::settle_all;
 use book_lock::Pass;
 use cdm_state::Cdm;
-use eme_types::Fragment;
+use eme_types::{Bytes, Copies, Fragment};
 use script_lang::{Action, Line, Script};
 use shared_cdm::SharedCdm;
 use std::alloc::{AllocError, Global};
@@ -47,6 +47,30 @@ fn feed_next<R: Wait>(
     }
 }
 
+/// Ends the session with the label, where it is open. Whether it is, the play does not ask.
+fn evict_named<R: Wait>(
+    rt: &R,
+    shared: &SharedCdm,
+    pass: Pass<Cdm>,
+    line: u32,
+    label: &Bytes,
+) -> (Pass<Cdm>, Result<(), AllocError>)
+    requires { IsOf shared.now pass }
+    ensures kept { Stays shared.now pass result.0 }
+    ensures adds { OnOk result.1 (AddsOne (EvictEntry line label.now) (seen pass) (own pass) (seen result.0) (own result.0)) }
+{
+    match label.copy() {
+        Ok(copy) => {
+            let (pass, evicted) = shared.evict(rt, pass, line, copy);
+            match evicted {
+                Ok(_) => (pass, Ok(())),
+                Err(back) => (pass, Err(back.error)),
+            }
+        }
+        Err(error) => (pass, Err(error)),
+    }
+}
+
 /// Does what a line of lane 0 asks.
 fn lead_line<R: Wait>(
     rt: &R,
@@ -68,6 +92,7 @@ fn lead_line<R: Wait>(
         Action::Ask(call) => make_call(rt, shared, pass, line, call),
         Action::Feed => feed_next(rt, shared, pass, left, line.number),
         Action::Clock(moment) => shared.tick(rt, pass, line.number, *moment),
+        Action::Evict(label) => evict_named(rt, shared, pass, line.number, label),
         Action::Settle => settle_all(rt, alloc, shared, pass, line.number, workers),
     }
 }

@@ -6,8 +6,8 @@ mod meeting;
 use crate::play_together;
 use cdm_state::Cdm;
 use decrypt_workers::FreeGate;
-use eme_types::Entry;
-use meeting::{Meeting, many_certificates, many_samples};
+use eme_types::{Entry, Verdict};
+use meeting::{Delay, Meeting, many_certificates, many_samples};
 use output_order::track_bytes;
 use script_lang::read_script;
 use std::alloc::Global;
@@ -26,6 +26,13 @@ const THREE_LANES: &str =
 // The protected sample is the first block of SP 800-38A section F.5.1.
 const TWO_TRACKS: &str =
     "SMPL 1\ntrack 1\ntrack 2\nfragment\nsample 1 clear 616263\nsample 2 cenc 000102030405060708090a0b0c0d0e0f f0f1f2f3f4f5f6f7f8f9fafbfcfdfeff - 874d6191b620e3261bef6864990db6ce\n";
+
+// The first sample has no key; behind it the workers hold claims on the others while lane 0 settles and evicts.
+const EVICTED: &str =
+    "EMES 1\n0 create a temporary\n0 request a keyids text:{\"kids\":[\"AAECAwQFBgcICQoLDA0ODw\"]}\n0 settle\n0 update a text:{\"keys\":[{\"kty\":\"oct\",\"kid\":\"AAECAwQFBgcICQoLDA0ODw\",\"k\":\"K34VFiiu0qar9xWICc9PPA\"}],\"type\":\"temporary\"}\n0 feed\n0 settle\n0 evict a\n";
+
+const BEHIND_A_HEAD: &str =
+    "SMPL 1\ntrack 1\nfragment\nsample 1 cenc ffffffffffffffffffffffffffffffff f0f1f2f3f4f5f6f7f8f9fafbfcfdfeff - 874d6191b620e3261bef6864990db6ce\nsample 1 cenc 000102030405060708090a0b0c0d0e0f f0f1f2f3f4f5f6f7f8f9fafbfcfdfeff - 874d6191b620e3261bef6864990db6ce\nsample 1 cenc 000102030405060708090a0b0c0d0e0f f0f1f2f3f4f5f6f7f8f9fafbfcfdfeff - 874d6191b620e3261bef6864990db6ce\n";
 
 const OPENED: [u8; 16] = [
     0x6b, 0xc1, 0xbe, 0xe2, 0x2e, 0x40, 0x9f, 0x96, 0xe9, 0x3d, 0x7e, 0x11, 0x73, 0x93, 0x17, 0x2a,
@@ -133,4 +140,44 @@ fn workers_take_part(rt: HostRuntime) -> Result<(), Fail> {
         }
     }
     Err(Fail::from("no play had both workers at the gate"))
+}
+
+/// How many claims of workers were delivered too late behind an eviction.
+fn late_behind_eviction(history: &[Entry]) -> u64 {
+    let mut evicted = false;
+    let mut late: u64 = 0;
+    for entry in history {
+        match entry {
+            Entry::Evict { .. } => evicted = true,
+            Entry::Deliver {
+                place,
+                verdict: Verdict::Stale,
+            } => {
+                if evicted && is_of_worker(history, *place) {
+                    late = late.saturating_add(1);
+                }
+            }
+            _ => {}
+        }
+    }
+    late
+}
+
+/// Whether in a play an eviction ended a claim that a worker held, and nothing came out.
+fn ends_held_claims<R: Threads + Wait + Sync>(rt: &R, alloc: Global) -> Result<bool, Fail> {
+    let script = read_script(alloc, EVICTED.as_bytes())?;
+    let media = parse_media(alloc, BEHIND_A_HEAD.as_bytes())?;
+    let cdm = play_together(rt, alloc, &script, media, 2, &Delay)?;
+    let nothing = track_bytes(alloc, &cdm, 1)?;
+    Ok(nothing.is_empty() && late_behind_eviction(cdm.history()) > 0)
+}
+
+#[test]
+fn evictions_end_claims_of_workers(rt: HostRuntime) -> Result<(), Fail> {
+    for _ in 0..64u32 {
+        if ends_held_claims(&rt, rt.alloc())? {
+            return Ok(());
+        }
+    }
+    Err(Fail::from("no worker held a claim at the eviction"))
 }

@@ -38,6 +38,25 @@ pub fn feed_nothing<R: Wait>(rt: &R, shared: &SharedCdm, pass: Pass<Cdm>) -> (Pa
     (pass, fed.is_ok())
 }
 
+/// The label of that session.
+pub fn label(alloc: Global) -> Result<Bytes, AllocError> {
+    Bytes::from_slice(alloc, b"a")
+}
+
+/// An eviction of the label by line 4; answers whether it ended a session, where memory was there.
+pub fn evict<R: Wait>(
+    rt: &R,
+    shared: &SharedCdm,
+    pass: Pass<Cdm>,
+    label: Bytes,
+) -> (Pass<Cdm>, Option<bool>)
+    requires { IsOf shared.now pass }
+    ensures { IsOf shared.now result.0 × (parts result.0 ≡ parts pass) }
+{
+    let (pass, evicted) = shared.evict(rt, pass, 4, label);
+    (pass, evicted.ok())
+}
+
 /// The front job.
 pub fn job<R: Wait>(
     rt: &R,

@@ -1,9 +1,10 @@
-//! A gate at which two workers meet, and a script and a media that give them the time to.
+//! A gate at which two workers meet, with a script and a media that give them the time to, and one that keeps each worker for a time.
 use decrypt_workers::{Gate, Spot};
 use std::alloc::{AllocError, Global};
 use std::sync::Wait;
 use std::sync::atomic::{AtomicU64, Ordering};
 use std::thread;
+use std::time::Duration;
 
 /// For so many turns a spot is kept.
 const TURNS: u32 = 1000;
@@ -48,6 +49,19 @@ impl Gate for Meeting {
             thread::yield_now();
         }
         mine.store(0, Ordering::SeqCst);
+    }
+}
+
+/// So long a claim is held, in milliseconds.
+const HELD: u64 = 50;
+
+/// Keeps each spot for a time in which lane 0 goes on.
+#[derive(Drop)]
+pub struct Delay;
+
+impl Gate for Delay {
+    fn pass<R: Wait>(&self, rt: &R, _spot: Spot) {
+        AtomicU64::new(0).park_timeout(rt, 0, Duration::from_millis(HELD));
     }
 }
 
