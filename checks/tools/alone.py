@@ -49,6 +49,8 @@ class Writer:
                 self.settle(line.number)
             elif line.verb == "clock":
                 self.add(f"tick {line.number} {line.words[0].decode()}")
+            elif line.verb == "evict":
+                self.add(f"evict {line.number}")
             else:
                 self.add(f"call {line.lane} {line.number}")
         self.settle(0)

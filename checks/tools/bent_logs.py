@@ -1,5 +1,5 @@
-"""Plays that are bent: from the play of checks/bent each row makes one with one mistake, which the checker of histories has to refuse
-for its reason; rows without a reason are as legal as the play itself."""
+"""Plays that are bent: from a play of checks/bent each row makes one with one mistake, which the checker of histories has to refuse for
+its reason; rows without a reason are as legal as the play itself."""
 import pathlib
 import re
 
@@ -200,7 +200,10 @@ LOGS = [
     ("a promise is rejected that is resolved", "stands for 'promise 3 resolved'", say_effect(7, 0, "promise 3 rejected TypeError")),
     ("statuses in another order", f"stands for 'statuses 2 {I1}=usable {I2}=usable'", say_effect(30, 0, f"statuses 2 {I2}=usable {I1}=usable")),
     ("a status of before the expiry", f"stands for 'statuses 2 {I1}=expired", say_effect(54, 0, f"statuses 2 {I1}=usable {I2}=usable")),
-    ("a session that is closed untold", "stands for 'closed 1'", lambda log: log.at(24).effects.pop(1)),
+    ("a session that is closed untold", "stands for 'closed 1 closed-by-application'", lambda log: log.at(24).effects.pop(1)),
+    ("a session that is closed for the other reason", "stands for 'closed 1 closed-by-application'", say_effect(24, 1, "closed 1 resource-evicted")),
+    ("a session that is closed for no reason", "'closed 1' stands for 'closed 1 closed-by-application'", say_effect(24, 1, "closed 1")),
+    ("a session that is closed twice", "'closed 1 closed-by-application' stands for 'promise 7 resolved'", lambda log: log.at(24).effects.insert(2, "  closed 1 closed-by-application")),
     ("effects in another order", "'promise 7 resolved' stands for 'statuses 1'", lambda log: log.at(24).effects.reverse()),
     ("an event that is not fired", "'event waitingforkey 1' is missing", lambda log: log.at(59).effects.clear()),
     ("an event of another track", "stands for 'event waitingforkey 1'", say_effect(59, 0, "event waitingforkey 2")),
@@ -211,6 +214,59 @@ LOGS = [
     ("the log without its implied entries", "the implied settle is missing", lambda log: log.drop(74, 75, 76, 77)),
     ("the log without the last fragment", "the implied feed is missing", lambda log: log.drop(75, 76, 77)),
     ("the log without its last line", "line 18 of lane 0 has no entry", lambda log: [log.drop(place) for place in range(63, 78)]),
+]
+
+
+def evicted_in_between(log):
+    """The claim of worker 2 is delivered before its session is evicted, and published after that."""
+    log.move(36, before=35)
+    log.say(36, "deliver @ taken")
+    log.add("publish 1 1 @", before=37, claim=28)
+
+
+EVICTIONS = [
+    ("the play itself", None, lambda log: None),
+    ("a lost claim is delivered when its session is closed", None, lambda log: log.move(36, before=48)),
+    ("the second eviction between the jobs", None, lambda log: log.move(38, before=40)),
+    ("the second eviction when the session is closed", None, lambda log: log.move(38, before=42)),
+    # keys that are usable later
+    ("a claim before the start of the key", "no session has a usable key of that id", lambda log: log.add(f"claim 1 1 0 1 {I1}", before=18)),
+    ("a claim under the evicted session when another one's key has started", "the first session with a usable key is 2", lambda log: log.say(61, f"claim 0 1 1 1 {I1}")),
+    ("a claim at the start of the key while its track waits", "track 1 waits", lambda log: log.move(27, before=24)),
+    ("a wait of a track that goes on since the start is reached", "a session has a usable key for the head of track 1", lambda log: log.add("wait 1", before=27)),
+    ("a start that is reached without a report", "track 1 waits", lambda log: log.drop(24, 25, 26)),
+    ("a report of a moment before the start", "no task is queued", lambda log: log.add("task", before=57, effects=[f"  statuses 2 {I1}=usable-in-future {I2}=usable-in-future"])),
+    ("a settle while the report of a start is queued", "a settle, but a task is queued", lambda log: log.move(70, before=58)),
+    ("a key that is usable before its start", f"stands for 'statuses 1 {I1}=usable-in-future'", say_effect(15, 0, f"statuses 1 {I1}=usable")),
+    ("a key that is usable later at its very start", f"stands for 'statuses 1 {I1}=usable'", say_effect(24, 0, f"statuses 1 {I1}=usable-in-future")),
+    ("a key that is expired before its start", f"stands for 'statuses 2 {I1}=usable-in-future", say_effect(51, 0, f"statuses 2 {I1}=expired {I2}=expired")),
+    ("a claim is taken whose key an update put off", "the claim of entry 72 is not live", lambda log: log.say(75, "deliver @ taken")),
+    ("a claim under a key that an update put off", "no session has a usable key of that id", lambda log: log.move(72, before=75)),
+    # evictions
+    ("a claim is taken whose session was evicted", "the claim of entry 28 is not live", lambda log: log.say(36, "deliver @ taken")),
+    ("a claim is published whose session was evicted in between", "the claim of entry 28 is not live", evicted_in_between),
+    ("a claim under an evicted session", "no session has a usable key of that id", lambda log: log.add(f"claim 1 1 1 1 {I1}", before=36)),
+    ("a live claim is stale before the eviction", "the claim of entry 28 is live", lambda log: log.move(36, before=35)),
+    ("an eviction that closes at once", "'statuses 1' is no effect of this entry", lambda log: log.at(35).effects.extend(log.at(41).effects)),
+    ("an eviction without its last report", "stands for 'statuses 1'", lambda log: log.drop(41)),
+    ("a settle before an eviction is told", "a settle, but a task is queued", lambda log: log.move(48, before=41)),
+    ("an evicted session that is closed untold", "'closed 1 resource-evicted' is missing", lambda log: log.at(41).effects.pop(1)),
+    ("an evicted session that is closed by the application", "stands for 'closed 1 resource-evicted'", say_effect(41, 1, "closed 1 closed-by-application")),
+    ("an evicted session that is closed twice", "'closed 1 resource-evicted' is no effect of this entry", lambda log: log.at(41).effects.append("  closed 1 resource-evicted")),
+    ("an evicted session that is closed once more by the second eviction", "'statuses 1' stands for 'promise 6 rejected InvalidStateError'", lambda log: log.double(41, before=42)),
+    ("an evicted session that is closed once more by its `close`", "stands for 'event keystatuseschange 1'", lambda log: log.add("task", before=44, effects=["  statuses 1", "  closed 1 closed-by-application"])),
+    ("an eviction of nobody that closes a session", "'closed 2 resource-evicted' is no effect of this entry", lambda log: log.at(55).effects.append("  closed 2 resource-evicted")),
+    ("an update of an evicted session that is resolved", "stands for 'promise 6 rejected InvalidStateError'", say_effect(42, 0, "promise 6 resolved")),
+    ("a removal of an evicted session that is resolved", "stands for 'promise 7 rejected InvalidStateError'", say_effect(43, 0, "promise 7 resolved")),
+    ("a removal of an evicted session that is rejected by another name", "stands for 'promise 7 rejected InvalidStateError'", say_effect(43, 0, "promise 7 rejected TypeError")),
+    ("a close of an evicted session that is rejected", "stands for 'promise 8 resolved'", say_effect(37, 0, "promise 8 rejected InvalidStateError")),
+    ("a removal before the eviction that is called behind it", "'promise 7 rejected InvalidStateError' is missing", lambda log: log.move(34, before=36)),
+    ("an eviction that is left out", "line 15 is not the next of lane 0, which is 13", lambda log: (log.drop(35, 36, 37))),
+    ("an eviction twice", "line 13 is not the next of lane 0, which is 14", lambda log: log.double(35, before=36)),
+    ("an eviction as a call", "line 13 is a evict", lambda log: log.say(35, "call 0 13")),
+    ("a close as an eviction", "line 14 is a close", lambda log: log.say(37, "evict 14")),
+    ("an eviction by another lane", "line 12 is not the next of lane 0, which is 13", lambda log: log.say(34, "evict 12")),
+    ("an implied eviction", "line 0 is not the next of lane 0", lambda log: log.say(38, "evict 0")),
 ]
 
 # Legal plays, that are none of the core where it takes another claim, publication or wait first.
@@ -242,20 +298,27 @@ TEXTS = [
     ("a key id in capitals", "is no entry 20", lambda text: once(text, f"claim 2 1 0 1 {I1}", f"claim 2 1 0 1 {I1.upper()}")),
     ("an entry of no known verb", "is no entry 12", lambda text: once(text, "settle 6", "rest 6")),
     ("a verdict that is none", "is no entry 26", lambda text: once(text, "20 stale", "20 late")),
-    ("an effect with one space", "'closed 1' is missing", lambda text: once(text, "  closed 1", " closed 1")),
-    ("an effect with three spaces", "stands for 'closed 1'", lambda text: once(text, "  closed 1", "   closed 1")),
+    ("an effect with one space", "'closed 1 closed-by-application' is missing", lambda text: once(text, "  closed 1", " closed 1")),
+    ("an effect with three spaces", "stands for 'closed 1 closed-by-application'", lambda text: once(text, "  closed 1", "   closed 1")),
+]
+
+TEXTS_OF_EVICTIONS = [
+    ("an eviction that names its session", "is no entry 35", lambda text: once(text, "evict 13", "evict 13 a")),
+    ("an eviction without its line", "is no entry 35", lambda text: once(text, "evict 13", "evict")),
+    ("a reason in capitals", "stands for 'closed 1 resource-evicted'", lambda text: once(text, "resource-evicted", "Resource-Evicted")),
 ]
 
 
 class Play:
-    """The play of checks/bent."""
+    """A play of checks/bent, with the log of two workers."""
 
-    def __init__(self):
-        self.script = read_script((FOLDER / "script").read_bytes())
-        self.media = read_media((FOLDER / "media").read_bytes())
-        self.log = (FOLDER / "log").read_text()
-        self.tracks = {id: bytes.fromhex((FOLDER / f"track.{id}.hex").read_text()) for id in self.media.tracks}
-        self.summary, self.workers, self.is_of_the_core = (FOLDER / "summary").read_bytes(), 2, False
+    def __init__(self, name):
+        folder = FOLDER / name
+        self.script = read_script((folder / "script").read_bytes())
+        self.media = read_media((folder / "media").read_bytes())
+        self.log = (folder / "log").read_text()
+        self.tracks = {id: bytes.fromhex((folder / f"track.{id}.hex").read_text()) for id in self.media.tracks}
+        self.summary, self.workers, self.is_of_the_core = (folder / "summary").read_bytes(), 2, False
 
 
 def changed(data, place):
@@ -283,9 +346,21 @@ FILES = [
 ]
 
 
+def waits(id, told, bent):
+    return lambda play: setattr(play, "summary", once(play.summary, f"track {id} samples {told}\n".encode(), f"track {id} samples {bent}\n".encode()))
+
+
+FILES_OF_EVICTIONS = [
+    ("the play itself with its summary", None, lambda play: None),
+    ("a track whose key comes later waits as if none came", "Summary:", waits(1, "3 bytes 67 waiting later", "3 bytes 67 waiting yes")),
+    ("a track whose key comes later does not wait", "Summary:", waits(1, "3 bytes 67 waiting later", "3 bytes 67 waiting no")),
+    ("a track for which no key comes waits for a later one", "Summary:", waits(2, "1 bytes 16 waiting yes", "1 bytes 16 waiting later")),
+]
+
+
 def past_the_window():
     """A play of 18 samples, whose first claim is one of the 17th."""
-    play = Play()
+    play = Play("three_lanes")
     play.script = [it for it in play.script if it.number < 9]
     play.media = Media([1], [Fragment([], play.media.fragments[0].samples[:1] * 18)])
     play.log = once(alone_log(play.script, play.media).decode(), "claim 0 1 0 1", "claim 0 1 16 1")
@@ -295,21 +370,23 @@ def past_the_window():
 def bent_plays():
     """Each row's name and words with its play."""
     yield "a claim past the window", "sample 16 is outside the window of track 1, which begins at 0", past_the_window()
-    for is_of_the_core, rows in ((False, LOGS), (True, CHOICES)):
+    for folder, is_of_the_core, rows in (("three_lanes", False, LOGS), ("three_lanes", True, CHOICES), ("evictions", False, EVICTIONS)):
         for name, words, bend in rows:
-            play = Play()
+            play = Play(folder)
             log = Log(play.log)
             bend(log)
             play.log, play.summary, play.is_of_the_core = log.text(), None, is_of_the_core
             yield name, words, play
-    for name, words, bend in TEXTS:
-        play = Play()
-        play.log = bend(play.log)
-        yield name, words, play
-    for name, words, bend in FILES:
-        play = Play()
-        bend(play)
-        yield name, words, play
+    for folder, rows in (("three_lanes", TEXTS), ("evictions", TEXTS_OF_EVICTIONS)):
+        for name, words, bend in rows:
+            play = Play(folder)
+            play.log = bend(play.log)
+            yield name, words, play
+    for folder, rows in (("three_lanes", FILES), ("evictions", FILES_OF_EVICTIONS)):
+        for name, words, bend in rows:
+            play = Play(folder)
+            bend(play)
+            yield name, words, play
 
 
 def faults():

@@ -21,7 +21,7 @@ NUMBER, KID = "(0|[1-9][0-9]*)", "((?:[0-9a-f]{2})+)"
 FORMS = {
     "call": (NUMBER, NUMBER), "job": (), "task": (), "tick": (NUMBER, NUMBER), "feed": (NUMBER, "(0|[1-9][0-9]*|-)"),
     "claim": (NUMBER, NUMBER, NUMBER, NUMBER, KID), "deliver": (NUMBER, "(taken|stale)"), "giveup": (NUMBER,),
-    "publish": (NUMBER, NUMBER, NUMBER), "clear": (NUMBER, NUMBER), "wait": (NUMBER,), "settle": (NUMBER,),
+    "publish": (NUMBER, NUMBER, NUMBER), "clear": (NUMBER, NUMBER), "wait": (NUMBER,), "settle": (NUMBER,), "evict": (NUMBER,),
 }
 # the words by which an entry says which of those allowed was taken; in this order a settle on one thread looks for a step
 CHOSEN = {"publish": slice(0, 3), "clear": slice(0, 2), "claim": slice(1, 3), "wait": slice(0, 1)}
@@ -109,7 +109,7 @@ class Checker:
         if first is not None and first != tuple(map(int, words[CHOSEN[verb]])):
             raise self.wrong("Choice", f"it is allowed, and the core takes {verb} {' '.join(map(str, first))} first")
         # only these change what sessions hold
-        if verb in ("call", "job", "task", "tick"):
+        if verb in ("call", "job", "task", "tick", "evict"):
             self.end_lost_claims()
         return effects
 
@@ -160,6 +160,10 @@ class Checker:
             raise self.wrong("Order", f"the moment of line {number} is {line.words[0].decode()}")
         self.allow(int(moment) >= self.world.moment, "the moment goes back")
         return self.world.taken(self.world.tick, int(moment))
+
+    def evict(self, number):
+        line = self.take_line(0, int(number), ("evict",))
+        return self.world.taken(self.world.evict, *line.words)
 
     def feed(self, number, fragment):
         if number == "0":
@@ -322,12 +326,17 @@ class Checker:
         if place != len(found):
             raise Wrong("Track", None, f"the file of track {id} has {len(found) - place} bytes more")
 
+    def waits(self, track):
+        if not track.is_waiting:
+            return "no"
+        return "later" if self.world.is_later(track.head().protection.kid) else "yes"
+
     def summary(self):
         promises = collections.Counter(self.world.promises)
         lines = [f"entries {self.place}", f"promises {len(self.world.promises)} resolved {promises['resolved']} rejected {promises['rejected']}"]
         for id, track in self.world.tracks.items():
             size = sum(map(len, self.outputs[id]))
-            lines.append(f"track {id} samples {track.published} bytes {size} waiting {'yes' if track.is_waiting else 'no'}")
+            lines.append(f"track {id} samples {track.published} bytes {size} waiting {self.waits(track)}")
         return "".join(f"{it}\n" for it in lines)
 
 

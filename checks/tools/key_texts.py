@@ -139,7 +139,16 @@ def request_text(kids):
 
 class KeySet(NamedTuple):
     keys: list
+    start: Optional[int]
     expires: Optional[int]
+
+
+def moment_of(members, name):
+    """The moment that a member says, none without it; written as digits alone."""
+    moment = members.get(name, 0)
+    if type(moment) is not int or not 0 <= moment <= LIMITS["MAX_MOMENT"]:
+        raise Refused("no moment")
+    return moment if name in members else None
 
 
 def read_key_set(data):
@@ -158,7 +167,4 @@ def read_key_set(data):
         keys.append((kid_of(it.get("kid")), key))
     if value.get("type", "temporary") != "temporary":
         raise Refused("another type")
-    expires = value.get("expires", 0)
-    if type(expires) is not int or not 0 <= expires <= LIMITS["MAX_MOMENT"]:
-        raise Refused("no moment")
-    return KeySet(keys, expires if "expires" in value else None)
+    return KeySet(keys, moment_of(value, "from"), moment_of(value, "expires"))

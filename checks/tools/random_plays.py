@@ -1,4 +1,5 @@
-"""Scripts and sample lists made from a seed: several lanes, sessions that come and go, keys that are replaced, released and expire."""
+"""Scripts and sample lists made from a seed: several lanes, sessions that come, go and are evicted, keys that are replaced, put off,
+released and expire."""
 import random
 
 from key_texts import base64url, json_text
@@ -49,7 +50,8 @@ class Maker:
         kids = self.random.sample(self.kids[:3], self.random.choice((1, 2, 3, 3, 3, 3)))
         keys = [{"kty": "oct", "kid": base64url(kid), "k": base64url(self.random.choice(self.keys[kid]))} for kid in kids]
         expires = {"expires": self.random.randrange(0, 1500)} if self.random.random() < 0.3 else {}
-        return json_text({"keys": keys, "type": "temporary", **expires})
+        start = {"from": self.moment + self.random.randrange(0, 800)} if self.random.random() < 0.2 else {}
+        return json_text({"keys": keys, "type": "temporary", **expires, **start})
 
     def request(self, label):
         kids = [kid for kid in self.kids if len(kid) == 16][:2]
@@ -88,6 +90,9 @@ class Maker:
         self.moment += self.random.randrange(0, 700)
         return f"clock {self.moment}"
 
+    def evict(self):
+        return f"evict {self.random.choice((*self.labels * 3, 'nobody'))}"
+
     def delay(self, *counts):
         """Calls that change nothing: other lanes and workers go on while they are made."""
         return ["certificate hex:"] * (0 if self.is_paced else self.random.choice(counts))
@@ -95,7 +100,7 @@ class Maker:
     def burst(self):
         """Samples are fed, and while workers hold claims on them a session loses its keys."""
         label = self.random.choice(self.labels)
-        change = self.random.choice((f"close {label}", f"remove {label}", self.clock(), f"update {label} text:{self.key_set()}"))
+        change = self.random.choice((f"close {label}", f"remove {label}", f"evict {label}", self.clock(), f"update {label} text:{self.key_set()}"))
         return ["feed", *self.delay(0, 2, 10), change, *self.delay(0, 5), "settle", f"update {label} text:{self.key_set()}"]
 
     def lane_0(self):
@@ -104,8 +109,9 @@ class Maker:
             lines += [f"update {label} text:{self.key_set()}"] * (self.random.random() < 0.8)
         lines += ["settle"] * (self.random.random() < 0.7)
         for _ in range(self.random.randrange(2, 8)):
-            verb = self.random.choice(("feed", "settle", "clock", "call", "call", "burst", "burst", "burst"))
-            lines += {"clock": lambda: [self.clock()], "call": lambda: [self.call()], "burst": self.burst}.get(verb, lambda verb=verb: [verb])()
+            verb = self.random.choice(("feed", "settle", "clock", "evict", "call", "call", "burst", "burst", "burst", "burst"))
+            made = {"clock": lambda: [self.clock()], "evict": lambda: [self.evict()], "call": lambda: [self.call()], "burst": self.burst}
+            lines += made.get(verb, lambda verb=verb: [verb])()
         return lines
 
     def lane(self):

@@ -13,6 +13,7 @@ class Line(NamedTuple):
 FORMS = {
     "access": (1, True), "create": (2, False), "request": (2, True), "update": (1, True), "close": (1, False),
     "remove": (1, False), "certificate": (0, True), "feed": (0, False), "clock": (1, False), "settle": (0, False),
+    "evict": (1, False),
 }
 CALLS = ("access", "create", "request", "update", "close", "remove", "certificate")
 

@@ -1,4 +1,5 @@
-"""The state of the CDM and the algorithms of sessions, as plain steps on lists: what a call, a job, a task, a moment and a feed do.
+"""The state of the CDM and the algorithms of sessions, as plain steps on lists: what a call, a job, a task, an eviction, a moment and a
+feed do.
 
 Written apart from the proved ones. Each step gives the lines of its effects, as the log has them.
 """
@@ -12,18 +13,30 @@ from formats_page import LIMITS
 class Session:
     def __init__(self, number):
         self.number, self.id = number, 0
-        self.is_uninitialized, self.is_callable, self.is_closing, self.is_closed = True, False, False, False
-        self.table, self.expiration = {}, None  # each known key id with its key, none where it is released
+        self.is_uninitialized, self.is_callable, self.is_closing, self.is_closed, self.is_evicted = True, False, False, False, False
+        self.table, self.start, self.expiration = {}, None, None  # each known key id with its key, none where it is released
 
-    def is_usable_at(self, moment):
-        return self.expiration is None or moment < self.expiration
+    def held_status(self, moment):
+        """The status of the keys that it holds."""
+        if self.expiration is not None and self.expiration <= moment:
+            return "expired"
+        if self.start is not None and moment < self.start:
+            return "usable-in-future"
+        return "usable"
 
     def statuses(self, moment):
-        held = "usable" if self.is_usable_at(moment) else "expired"
+        held = self.held_status(moment)
         return [(kid, "released" if key is None else held) for kid, key in sorted(self.table.items())]
 
+    def held_key(self, kid, moment, status):
+        """The key of that id where it has that status, and the session is not closed."""
+        return None if self.is_closed or self.held_status(moment) != status else self.table.get(kid)
+
     def usable_key(self, kid, moment):
-        return None if self.is_closed or not self.is_usable_at(moment) else self.table.get(kid)
+        return self.held_key(kid, moment, "usable")
+
+    def clear(self):
+        self.table, self.start, self.expiration = {}, None, None
 
 
 class Track:
@@ -53,6 +66,10 @@ class World:
             if key is not None:
                 return session, key
         return None
+
+    def is_later(self, kid):
+        """Whether a session has a key of that id whose start is still to come."""
+        return any(it.held_key(kid, self.moment, "usable-in-future") is not None for it in self.sessions)
 
     def settle(self, promise, how, told=""):
         self.promises[promise - 1] = how
@@ -134,11 +151,25 @@ class World:
     def call_certificate(self, promise, data):
         self.settle(promise, "resolved", "false")
 
+    # An eviction
+
+    def evict(self, label):
+        """The session of the label ends without a call, where it is neither closing nor closed."""
+        session = self.by_label.get(label)
+        if session is None or session.is_closing or session.is_closed:
+            return
+        session.is_evicted = session.is_closing = True
+        session.clear()
+        self.tasks.append((self.task_evicted, session))
+
     # Jobs
 
     def job(self):
-        step, *words = self.jobs.popleft()
-        step(*words)
+        step, session, promise, *words = self.jobs.popleft()
+        if session.is_evicted:
+            self.tasks.append((self.task_reject, promise, "InvalidStateError"))
+        else:
+            step(session, promise, *words)
 
     def job_request(self, session, promise, kind, data):
         try:
@@ -153,7 +184,7 @@ class World:
 
     def job_update(self, session, promise, data):
         try:
-            keys, expires = key_texts.read_key_set(data)
+            keys, start, expires = key_texts.read_key_set(data)
         except key_texts.Refused:
             self.tasks.append((self.task_reject, promise, "TypeError"))
             return
@@ -162,18 +193,16 @@ class World:
             return
         before = dict(session.table), session.statuses(self.moment)
         session.table.update(keys)
-        session.expiration = expires
+        session.start, session.expiration = start, expires
         changed = before != (session.table, session.statuses(self.moment))
         self.tasks.append((self.task_update_done, session, promise, changed))
 
     def job_close(self, session, promise):
-        session.table.clear()
-        session.expiration = None
+        session.clear()
         self.tasks.append((self.task_close_done, session, promise))
 
     def job_remove(self, session, promise):
-        session.table = dict.fromkeys(session.table)
-        session.expiration = None
+        session.table, session.start, session.expiration = dict.fromkeys(session.table), None, None
         self.tasks.append((self.task_remove_done, session, promise))
 
     # Tasks
@@ -187,6 +216,12 @@ class World:
         self.effects.append(f"statuses {session.number}{told}")
         self.tasks.append((self.task_fire, f"keystatuseschange {session.number}"))
         self.tasks.append((self.task_resume,))
+
+    def close(self, session, reason):
+        """The last report of a session, and its `closed` promise, settled with a reason."""
+        self.update_key_statuses(session)
+        session.is_closed = True
+        self.effects.append(f"closed {session.number} {reason}")
 
     def task_reject(self, promise, name):
         self.settle(promise, "rejected", name)
@@ -203,10 +238,11 @@ class World:
         self.settle(promise, "resolved")
 
     def task_close_done(self, session, promise):
-        self.update_key_statuses(session)
-        session.is_closed = True
-        self.effects.append(f"closed {session.number}")
+        self.close(session, "closed-by-application")
         self.settle(promise, "resolved")
+
+    def task_evicted(self, session):
+        self.close(session, "resource-evicted")
 
     def task_remove_done(self, session, promise):
         self.update_key_statuses(session)

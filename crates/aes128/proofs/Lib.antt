@@ -1,10 +1,11 @@
 pub mod Below
 pub mod Tables
 pub mod Vectors
-pub mod FieldLaws
 pub mod Linear
 pub mod Matrices
 pub mod States
 pub mod Steps
 pub mod InverseOfCipher
 pub mod CipherOfInverse
+pub mod WordLaws
+pub mod Equivalent

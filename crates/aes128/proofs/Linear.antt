@@ -91,6 +91,10 @@ pub times-lt : (a x : ℕ) → x < 256 → times a x < 256
 unfolding times
 times-lt a x lx = product-lt 8 a x lx
 
+pub times_1 : (b : ℕ) → times 1 b ≡ b
+unfolding product times
+times_1 b = simp (one-mul, zero-mul, xor_zero_r)
+
 -- ---- columns
 
 pub combined-lt : (k0 k1 k2 k3 a b c d : ℕ) → a < 256 → b < 256 → c < 256 → d < 256 → combined k0 k1 k2 k3 a b c d < 256

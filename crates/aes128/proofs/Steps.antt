@@ -15,11 +15,11 @@ use Rattle.aes128.proofs.States.{same_state, state_bytes}
 
 -- ---- bytes
 
-sub_byte-lt : (x : ℕ) → sub_byte x < 256
+pub sub_byte-lt : (x : ℕ) → sub_byte x < 256
 unfolding sub_byte
 sub_byte-lt x = omega arith
 
-inv_sub_byte-lt : (x : ℕ) → x < 256 → inv_sub_byte x < 256
+pub inv_sub_byte-lt : (x : ℕ) → x < 256 → inv_sub_byte x < 256
 unfolding all_below product times inverse inv_sub_byte
 inv_sub_byte-lt x lt = ltb-true (inv_sub_byte x) 256 (below (λ k. nat_lt (inv_sub_byte k) 256) 256 x refl lt)
 
@@ -98,7 +98,7 @@ inv_mixed_state s = refl
 
 -- ---- steps undone
 
-sub_back : (x : ℕ) → x < 256 → inv_sub_byte (sub_byte x) ≡ x
+pub sub_back : (x : ℕ) → x < 256 → inv_sub_byte (sub_byte x) ≡ x
 unfolding all_below product times inverse sub_byte inv_sub_byte
 sub_back x lt = same_below (λ k. inv_sub_byte (sub_byte k)) (λ k. k) 256 x refl lt
 

@@ -5,3 +5,4 @@ pub mod State
 pub mod KeyExpansion
 pub mod Cipher
 pub mod InverseCipher
+pub mod Words

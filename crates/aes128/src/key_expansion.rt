@@ -1,65 +1,59 @@
-//! The key expansion (FIPS 197, section 5.2).
+//! The key expansion (FIPS 197, sections 5.2 and 5.3.5).
 
 ghost use Rattle.std.specs.Prelude.{◌≡◌};
 ghost use Rattle.aes128.specs.KeyExpansion.{next_key};
+ghost use Rattle.aes128.specs.Words.{state_of_words};
 
+use crate::inverse_rounds::mixed_key;
 use crate::sbox::sub_byte;
+use crate::words::{byte, word, words_of};
 use std::marker::Model;
 
 // The round key after `k`.
 #[inline(always)]
-fn next_key(k: [u8; 16], constant: u8) -> [u8; 16]
-    ensures { result ≡ next_key constant k }
+fn next_key(k: [u32; 4], constant: u8) -> [u32; 4]
+    ensures { state_of_words result ≡ next_key constant (state_of_words k) }
 {
-    let a0 = (k[0] ^ sub_byte(k[13])) ^ constant;
-    let a1 = k[1] ^ sub_byte(k[14]);
-    let a2 = k[2] ^ sub_byte(k[15]);
-    let a3 = k[3] ^ sub_byte(k[12]);
-    let (b0, b1, b2, b3) = (k[4] ^ a0, k[5] ^ a1, k[6] ^ a2, k[7] ^ a3);
-    let (c0, c1, c2, c3) = (k[8] ^ b0, k[9] ^ b1, k[10] ^ b2, k[11] ^ b3);
-    [
-        a0,
-        a1,
-        a2,
-        a3,
-        b0,
-        b1,
-        b2,
-        b3,
-        c0,
-        c1,
-        c2,
-        c3,
-        k[12] ^ c0,
-        k[13] ^ c1,
-        k[14] ^ c2,
-        k[15] ^ c3,
-    ]
+    let turned = word(
+        sub_byte(byte::<1>(k[3])),
+        sub_byte(byte::<2>(k[3])),
+        sub_byte(byte::<3>(k[3])),
+        sub_byte(byte::<0>(k[3])),
+    );
+    let a = (k[0] ^ turned) ^ word(constant, 0, 0, 0);
+    let b = k[1] ^ a;
+    let c = k[2] ^ b;
+    [a, b, c, k[3] ^ c]
 }
 
-/// The keys of rounds 0 to 10, seen as the key that they come from.
+/// The keys of rounds 0 to 10, for the cipher and for the inverse cipher, seen as the key that they come from.
 #[derive(Drop)]
 pub struct RoundKeys {
-    pub(crate) keys: [[u8; 16]; 11],
+    pub(crate) words: [[u32; 4]; 11],
+    // Those of rounds 1 to 9 have mixed columns.
+    pub(crate) inverse: [[u32; 4]; 11],
 }
 
 impl Model for RoundKeys {
-    ghost use Rattle.std.specs.Prelude.{◌≡◌, ℕ, List, [], slice_index_or};
+    ghost use Rattle.std.specs.Prelude.{◌≡◌, ℕ, List, [], map, slice_index_or};
     ghost use Rattle.aes128.specs.KeyExpansion.{round_keys};
+    ghost use Rattle.aes128.specs.InverseCipher.{inverse_round_keys};
+    ghost use Rattle.aes128.specs.Words.{state_of_words};
 
     ghost Value = { List ℕ };
 
-    ghost view = { λ k. slice_index_or k.keys 0 [] };
+    ghost view = { λ k. state_of_words (slice_index_or k.words 0 []) };
 
-    ghost invariant = { λ k. k.keys ≡ round_keys (slice_index_or k.keys 0 []) };
+    ghost invariant = { λ k. (map state_of_words k.words ≡ round_keys (state_of_words (slice_index_or k.words 0 [])))
+        × (map state_of_words k.inverse ≡ inverse_round_keys (state_of_words (slice_index_or k.words 0 []))) };
 }
 
 /// The round keys of a key: KeyExpansion.
-#[tactic(auto, unfolding(crate::specs::KeyExpansion::round_constant, crate::specs::KeyExpansion::round_key, crate::specs::KeyExpansion::round_keys))]
 pub fn expand(key: [u8; 16]) -> RoundKeys
     ensures { result ≡ key }
 {
-    let k1 = next_key(key, 0x01);
+    let k0 = words_of(key);
+    let k1 = next_key(k0, 0x01);
     let k2 = next_key(k1, 0x02);
     let k3 = next_key(k2, 0x04);
     let k4 = next_key(k3, 0x08);
@@ -69,7 +63,11 @@ pub fn expand(key: [u8; 16]) -> RoundKeys
     let k8 = next_key(k7, 0x80);
     let k9 = next_key(k8, 0x1b);
     let k10 = next_key(k9, 0x36);
+    let (m1, m2, m3) = (mixed_key(k1), mixed_key(k2), mixed_key(k3));
+    let (m4, m5, m6) = (mixed_key(k4), mixed_key(k5), mixed_key(k6));
+    let (m7, m8, m9) = (mixed_key(k7), mixed_key(k8), mixed_key(k9));
     RoundKeys {
-        keys: [key, k1, k2, k3, k4, k5, k6, k7, k8, k9, k10],
+        words: [k0, k1, k2, k3, k4, k5, k6, k7, k8, k9, k10],
+        inverse: [k0, m1, m2, m3, m4, m5, m6, m7, m8, m9, k10],
     }
 }

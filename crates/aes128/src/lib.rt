@@ -6,42 +6,43 @@ ghost use Rattle.aes128.specs.Bytes.{AreBytes};
 ghost use Rattle.aes128.specs.Cipher.{cipher};
 ghost use Rattle.aes128.specs.InverseCipher.{inv_cipher};
 
-mod field;
 mod inverse_rounds;
 mod key_expansion;
 mod rounds;
 mod sbox;
+mod word_tables;
+mod words;
 
 use inverse_rounds::{inv_last_round, inv_round};
 pub use key_expansion::{RoundKeys, expand};
-use rounds::{add_round_key, last_round, round};
+use rounds::{last_round, round};
 pub use sbox::sbox_rows;
+pub use word_tables::{InverseTable, WordTable, word_rows};
+use words::{add_round_key, block_of, words_of};
 
 // The rounds by these round keys, written out one after the other.
 macro_rules! rounds {
-    ($state:ident, $round:ident, $keys:ident: $($n:literal)*) => {
-        $(let $state = $round($state, $keys.keys[$n]);)*
+    ($state:ident, $round:ident, $keys:expr, $($n:literal)*) => {
+        $(let $state = $round($state, $keys[$n]);)*
     };
 }
 
 /// The cipher of a block (FIPS 197, section 5.1).
-#[tactic(auto, unfolding(crate::specs::Cipher::rounds, crate::specs::Cipher::cipher, crate::specs::KeyExpansion::round_keys))]
 pub fn encrypt_block(keys: &RoundKeys, block: [u8; 16]) -> [u8; 16]
     ensures { result ≡ cipher keys.now block }
 {
-    let state = add_round_key(block, keys.keys[0]);
-    rounds!(state, round, keys: 1 2 3 4 5 6 7 8 9);
-    last_round(state, keys.keys[10])
+    let state = add_round_key(words_of(block), keys.words[0]);
+    rounds!(state, round, keys.words, 1 2 3 4 5 6 7 8 9);
+    block_of(last_round(state, keys.words[10]))
 }
 
-/// The inverse cipher of a block (FIPS 197, section 5.3).
-#[tactic(auto, unfolding(crate::specs::InverseCipher::inv_rounds, crate::specs::InverseCipher::inv_cipher, crate::specs::KeyExpansion::round_keys))]
+/// The inverse cipher of a block (FIPS 197, section 5.3), as the equivalent inverse cipher (section 5.3.5).
 pub fn decrypt_block(keys: &RoundKeys, block: [u8; 16]) -> [u8; 16]
     ensures { result ≡ inv_cipher keys.now block }
 {
-    let state = add_round_key(block, keys.keys[10]);
-    rounds!(state, inv_round, keys: 9 8 7 6 5 4 3 2 1);
-    inv_last_round(state, keys.keys[0])
+    let state = add_round_key(words_of(block), keys.inverse[10]);
+    rounds!(state, inv_round, keys.inverse, 9 8 7 6 5 4 3 2 1);
+    block_of(inv_last_round(state, keys.inverse[0]))
 }
 
 /// The inverse cipher undoes the cipher, and the cipher the inverse cipher.
@@ -96,5 +97,13 @@ mod tests {
             u128::from_be_bytes(stream) ^ plain,
             0x874d6191b620e3261bef6864990db6ce
         );
+    }
+
+    #[test]
+    fn first_rows_of_the_word_tables(rt: HostRuntime) {
+        // The S-box takes 0 to 63, and the inverse S-box to 52.
+        assert_eq!(rt; WordTable::<0>::row(0), 0xc66363a5);
+        assert_eq!(rt; WordTable::<8>::row(0), 0xa5c66363);
+        assert_eq!(rt; InverseTable::<0>::row(0), 0x51f4a750);
     }
 }

@@ -137,7 +137,7 @@ fn is_temporary(set: &Value) -> bool
 
 // The moment that a member says, if it is there.
 fn moment_of(member: Option<&Value>, fault: KeySetFault) -> Result<Option<u64>, KeySetFault>
-    ensures { result ≡ moment_of fault (option_map (λ value. view value.now) member) }
+    ensures { result ≡ moment_of fault (option_map (λ value. view value.now) member.entry) }
 {
     let Some(member) = member else {
         return Ok(None);

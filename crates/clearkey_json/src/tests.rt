@@ -41,15 +41,20 @@ fn repeated(alloc: Global, piece: &str, count: usize) -> Result<String, AllocErr
 #[test]
 fn a_licence_is_read(rt: HostRuntime) -> Result<(), Fail> {
     let cases = [
-        (",\"type\":\"temporary\"", None),
-        ("", None),
-        (",\"type\":\"temporary\",\"expires\":0", Some(0)),
+        (",\"type\":\"temporary\"", None, None),
+        ("", None, None),
+        (",\"type\":\"temporary\",\"expires\":0", Some(0), None),
         (
             ",\"expires\":9007199254740992,\"more\":null",
             Some(9007199254740992),
+            None,
         ),
+        (",\"from\":0", None, Some(0)),
+        (",\"type\":\"temporary\",\"from\":500", None, Some(500)),
+        (",\"from\":9007199254740992", None, Some(9007199254740992)),
+        (",\"from\":1000,\"expires\":500", Some(500), Some(1000)),
     ];
-    for (further, expires) in cases {
+    for (further, expires, from) in cases {
         let text = set_of(
             rt.alloc(),
             "AAECAwQFBgcICQoLDA0ODw",
@@ -67,7 +72,7 @@ fn a_licence_is_read(rt: HostRuntime) -> Result<(), Fail> {
             }
             _ => assert!(rt; false, "another number of keys"),
         }
-        assert_eq!(rt; set.expires, expires);
+        assert_eq!(rt; (set.expires, set.from), (expires, from), "{further}");
     }
     Ok(())
 }
@@ -147,6 +152,13 @@ fn members_of_a_licence_are_tested(rt: HostRuntime) -> Result<(), Fail> {
         (",\"expires\":null", KeySetFault::Expires),
         (",\"expires\":9007199254740993", KeySetFault::Expires),
         (",\"expires\":18446744073709551616", KeySetFault::Expires),
+        (",\"from\":-1,\"expires\":-1", KeySetFault::Expires),
+        (",\"from\":1.0", KeySetFault::From),
+        (",\"from\":1e3", KeySetFault::From),
+        (",\"from\":-1", KeySetFault::From),
+        (",\"from\":\"5\"", KeySetFault::From),
+        (",\"from\":null,\"expires\":500", KeySetFault::From),
+        (",\"from\":9007199254740993", KeySetFault::From),
     ];
     for (further, fault) in cases {
         let text = set_of(rt.alloc(), "AA", "K34VFiiu0qar9xWICc9PPA", further)?;

@@ -88,7 +88,7 @@ pub stands_here : (vs : List TrackValue) (i id : ℕ) (v : TrackValue) → i < l
 stands_here vs i id v lt none same = record { within = within vs i lt; first = none; same = here (λ t. t.id ≡ id) vs i v lt same }
 
 -- the track that an id finds
-pub found_here : (vs : List TrackValue) (i id : ℕ) (v : TrackValue) → i < length vs → StandsAt (map fed_track vs) id i → find_fed (map fed_track vs) id ≡ Some (get_or vs i v).track
+found_here : (vs : List TrackValue) (i id : ℕ) (v : TrackValue) → i < length vs → StandsAt (map fed_track vs) id i → find_fed (map fed_track vs) id ≡ Some (get_or vs i v).track
 found_here vs i id v lt stands = go vs i lt stands.first (seen_here (λ t. t.id ≡ id) vs i v.track lt (stands.same v.track) v) where
   go : (vs : List TrackValue) (i : ℕ) → i < length vs → find_fed (take i (map fed_track vs)) id ≡ None → (get_or vs i v).track.id ≡ id → find_fed (map fed_track vs) id ≡ Some (get_or vs i v).track
   go [] i lt none same = absurd (omega arith)
@@ -176,6 +176,10 @@ room_for b v same ready =
 
 pub unwithin : (vs : List TrackValue) (i : ℕ) → i < length (map fed_track vs) → i < length vs
 unwithin vs i lt = omega (arith, lt, seen_length vs)
+
+-- the track at the place that an id finds
+pub found_at : (vs : List TrackValue) (i id : ℕ) (v : TrackValue) → StandsAt (map fed_track vs) id i → v ≡ get_or vs i v → find_fed (map fed_track vs) id ≡ Some v.track
+found_at vs i id v stands is = found_here vs i id v (unwithin vs i stands.within) stands ∙ ap (λ (x : TrackValue). Some x.track) (sym is)
 
 took_same : (b : Batch) (v : TrackValue) → Took v v (coming v.track.id b)
 took_same b v = record { id = refl; spare = omega arith; left = omega arith; room = refl }

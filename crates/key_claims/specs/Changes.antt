@@ -26,6 +26,11 @@ abbrev pub outputs_of : Option FedTrack → List (List ℕ)
 outputs_of None = []
 outputs_of (Some t) = t.outputs
 
+-- the head of the track, if it is there
+abbrev pub head_of : Option FedTrack → Option EncSample
+head_of None = None
+head_of (Some t) = head (track_of t)
+
 -- the track is there and waits for a key
 abbrev pub waits : Option FedTrack → Bool
 waits None = false

@@ -280,7 +280,12 @@ fn samples_are_published_in_order(rt: HostRuntime) -> Result<(), Fail> {
     assert_eq!(rt; tracks.ready(), None);
     assert!(rt; is_taken(&mut tracks, alloc, first)?);
     assert_eq!(rt; tracks.publish(), Ok(Published { track: 1, index: 0 }));
+    assert_eq!(rt;
+        head_bytes(&tracks, 1),
+        Some(SEALED.to_be_bytes().as_slice())
+    );
     assert_eq!(rt; tracks.publish(), Ok(Published { track: 1, index: 1 }));
+    assert_eq!(rt; head_bytes(&tracks, 1), None);
     Ok(())
 }
 
@@ -301,13 +306,25 @@ fn a_sealed_head_without_a_key_waits(rt: HostRuntime) -> Result<(), Fail> {
     Ok(())
 }
 
+/// The bytes of a track's head.
+fn head_bytes(tracks: &Tracks, track: u32) -> Option<&[u8]> {
+    match tracks.head(track) {
+        None => None,
+        Some(sample) => Some(sample.bytes.as_slice()),
+    }
+}
+
 #[test]
 fn a_clear_head_passes(rt: HostRuntime) -> Result<(), Fail> {
     let alloc = rt.alloc();
     let other = key_under(alloc, b"\x01")?;
     let mut tracks = two_tracks(alloc, 0)?;
     assert_eq!(rt; tracks.unrested(&other), Some(2));
+    for (track, head) in [(1, None), (2, Some(b"abc".as_slice())), (3, None)] {
+        assert_eq!(rt; head_bytes(&tracks, track), head, "track {track}");
+    }
     assert_eq!(rt; tracks.pass_clear(), Ok(Published { track: 2, index: 0 }));
+    assert_eq!(rt; head_bytes(&tracks, 2), None);
     assert_eq!(rt; tracks.pass_clear(), Err(NotReady));
     assert_eq!(rt; tracks.output(2, 0), Some(b"abc".as_slice()));
     assert_eq!(rt; tracks.unrested(&other), None);

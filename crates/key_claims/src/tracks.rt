@@ -8,7 +8,7 @@ ghost use Rattle.cdm_world.specs.Tracks.{head};
 ghost use Rattle.key_claims.specs.TracksState.{FedTrack, track_of};
 ghost use Rattle.key_claims.specs.TrackValue.{TrackValue, fed_track, resumed_value, left_of, all_left, all_fed};
 ghost use Rattle.key_claims.specs.Claims.{is_other, revoked};
-ghost use Rattle.key_claims.specs.Changes.{empty_fed, changed_at, more_out, with_waiting, feed_all, find_fed, outputs_of, waits, resumed_one};
+ghost use Rattle.key_claims.specs.Changes.{empty_fed, changed_at, more_out, with_waiting, feed_all, find_fed, outputs_of, head_of, waits, resumed_one};
 ghost use Rattle.key_claims.specs.Choice.{protect_at, NoWork, NoneReady, NoneIs, has_clear_head, is_unkeyed, rests, AllRest, IsUnrested, IsNext};
 ghost use Rattle.key_claims.specs.Contract.{AreBelow, HoldsWork, Claims as Claimed, Delivers, IsReadyNow, Publishes, PublishesReady, PassesClear, BeginsToWait, IsBusy};
 ghost use Rattle.key_claims.specs.Kept.{AreSound};
@@ -23,7 +23,7 @@ use crate::claims::Claims;
 use crate::feed::{add_batches, batches_of, reserve_batches};
 use crate::slots::Held;
 use crate::track::{Track, track_at};
-use eme_types::{Bytes, Copies, Fragment, KeyId, TrackIds};
+use eme_types::{Bytes, Copies, EncSample, Fragment, KeyId, TrackIds};
 use key_statuses::Picks;
 use std::alloc::{AllocError, Global};
 use std::marker::Model;
@@ -231,6 +231,16 @@ impl Tracks {
         match track_at(&self.tracks, track) {
             None => None,
             Some(i) => self.tracks[i].output(index as usize),
+        }
+    }
+
+    /// The head of a track: its fed sample that is out next. None where the track is unknown or all that was fed is out.
+    pub fn head(&self, track: u32) -> Option<&EncSample>
+        ensures { MatchOption result (head_of (find_fed self.now.tracks track) ≡ None) (λ s. head_of (find_fed self.now.tracks track) ≡ Some s.now) }
+    {
+        match track_at(&self.tracks, track) {
+            None => None,
+            Some(i) => self.tracks[i].head(),
         }
     }
 

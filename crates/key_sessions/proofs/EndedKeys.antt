@@ -10,9 +10,9 @@ use Rattle.key_statuses.specs.declared.table.KnownKey.{KnownKey}
 use Rattle.cdm_world.specs.In.{In}
 use Rattle.cdm_world.specs.Distinct.{Distinct}
 use Rattle.key_statuses.specs.Table.{key_in, released}
-use Rattle.key_statuses.specs.Statuses.{same_key, held_status, is_usable}
+use Rattle.key_statuses.specs.Statuses.{same_key, is_usable}
 use Rattle.key_sessions.specs.declared.lost.Lost.{Lost}
-use Rattle.key_sessions.specs.Machine.{SessionState}
+use Rattle.key_sessions.specs.Machine.{SessionState, status_at}
 use Rattle.key_sessions.specs.Keys.{usable_key}
 use Rattle.key_sessions.specs.LostPair.{pair_of}
 use Rattle.key_sessions.specs.Ended.{key_if, is_gone, ended_keys, AreEnded}
@@ -101,9 +101,9 @@ none_released (k ∷ ks) kid = go (bytes_eq k.kid kid) (none_released ks kid) wh
   go true rest = refl
   go false rest = rest
 
--- no key of a session whose keys are usable afterwards has expired
-pub usable_stays : (before after : ℕ) (s : SessionState) (kid : List ℕ) (key : KeyBytes) → is_usable (held_status s.expiration after) ≡ true → usable_key before s kid ≡ Some key → usable_key after s kid ≡ Some key
-usable_stays before after s kid key e was = rw e (go s.closed (is_usable (held_status s.expiration before)) was) where
+-- a session whose keys are usable afterwards has lost none
+pub usable_stays : (before after : ℕ) (s : SessionState) (kid : List ℕ) (key : KeyBytes) → is_usable (status_at after s) ≡ true → usable_key before s kid ≡ Some key → usable_key after s kid ≡ Some key
+usable_stays before after s kid key e was = rw e (go s.closed (is_usable (status_at before s)) was) where
   go : (c u : Bool) → (if c then None else (if u then key_in s.keys kid else None)) ≡ Some key → (if c then None else key_in s.keys kid) ≡ Some key
   go true u was = absurd cc
   go false true was = was

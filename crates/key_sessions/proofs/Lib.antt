@@ -3,6 +3,7 @@ pub mod Reported
 pub mod Held
 pub mod EndedKeys
 pub mod LostKeys
+pub mod Evictions
 pub mod There
 pub mod Rejected
 pub mod Owed

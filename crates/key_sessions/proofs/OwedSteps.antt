@@ -12,6 +12,8 @@ use Rattle.eme_types.specs.declared.call.Settled.{Settled}
 use Rattle.eme_types.specs.declared.call.Settled.TheVariants.{Resolved, ResolvedFalse, Rejected}
 use Rattle.eme_types.specs.declared.call.DomError.{DomError}
 use Rattle.eme_types.specs.declared.call.DomError.TheVariants.{InvalidState, TypeFault, NotSupported, Quota, UnknownLabel}
+use Rattle.eme_types.specs.declared.call.Reason.{Reason}
+use Rattle.eme_types.specs.declared.call.Reason.TheVariants.{ClosedByApplication, ResourceEvicted}
 use Rattle.eme_types.specs.declared.call.AppCall.{AppCall}
 use Rattle.eme_types.specs.declared.call.AppCall.TheVariants.{Access, Create, Request, Update, Close, Remove, Certificate}
 use Rattle.eme_types.specs.declared.call.Effect.{Effect}
@@ -26,21 +28,22 @@ use Rattle.key_system_access.specs.Configs.{configs_of}
 use Rattle.task_queue.specs.declared.work.Job.{Job}
 use Rattle.task_queue.specs.declared.work.Job.TheVariants.{Request as RequestJob, Update as UpdateJob, Close as CloseJob, Remove as RemoveJob}
 use Rattle.task_queue.specs.declared.work.Task.{Task}
-use Rattle.task_queue.specs.declared.work.Task.TheVariants.{Reject, RequestDone, UpdateDone, CloseDone, RemoveDone, Report, Fire, Resume}
+use Rattle.task_queue.specs.declared.work.Task.TheVariants.{Reject, RequestDone, UpdateDone, CloseDone, RemoveDone, Evicted, Report, Fire, Resume}
 use Rattle.key_statuses.specs.Table.{grant_all}
 use Rattle.eme_types.specs.declared.kid.KeyBytes.{KeyBytes}
 use Rattle.key_sessions.specs.Machine.{SessionState, Machine, new_session, session_at, change_session}
 use Rattle.key_sessions.specs.Keys.{usable_key, held_in, held_key}
 use Rattle.key_sessions.specs.Owed.{one_if, job_owes, task_owes, jobs_owe, tasks_owe, pending, IsOwed, times_settled, Asked, Steady}
-use Rattle.key_sessions.specs.Steps.{Done, unmoved, with_session, queue_task, update_statuses, report_of, statuses_now}
+use Rattle.key_sessions.specs.Steps.{Done, unmoved, with_session, queue_task, update_statuses, report_of, statuses_now, closed_for}
 use Rattle.task_queue.specs.Pending.{settle_in}
 use Rattle.key_sessions.specs.Calls.{access_result, answer_now, reject_now, answer_later, create_call, add_session, find_label, is_ending, request_on, request_started, request_kind, start_request, update_on, update_or, or_empty, state_fault, close_on, start_closing, remove_on, remove_or, after_call}
-use Rattle.key_sessions.specs.Jobs.{request_job, request_error, grant_set, with_set, is_changed_by, found, update_job, take_job, after_job, cleared, without_keys}
+use Rattle.key_sessions.specs.Jobs.{request_job, request_error, grant_set, with_set, is_changed_by, found, update_job, work_job, job_session, job_promise, is_evicted, take_job, after_job, cleared, without_keys}
+use Rattle.key_sessions.specs.Evict.{evict_numbered, evict_on, after_evict}
 use Rattle.key_sessions.specs.Tasks.{run_task, take_task, after_task, is_closed, request_done, next_id, reports_from, after_tick}
 use Rattle.key_sessions.proofs.SessionLists.{length-change_session}
 use Rattle.key_sessions.specs.Queued.{IsNumber, IsJobOf, AreThere}
 use Rattle.key_sessions.proofs.Held.{held_alike, held_more}
-use Rattle.key_sessions.proofs.There.{more_jobs, last_job, there_more, IsKnown, find_known}
+use Rattle.key_sessions.proofs.There.{more_jobs, last_job, there_more, IsKnown, label_known}
 use Rattle.key_sessions.proofs.Owed.{one_same, times_one, times_more, jobs_more, tasks_more, pending_within, pending_done, pending_new, pending_settled, length-settle_in, reports_owe}
 
 -- sessions that keep every usable key, are no fewer, and stay at most 64
@@ -131,16 +134,13 @@ called_remove : (m : Machine) (o : Option (ℕ × SessionState)) → IsKnown (le
 called_remove m None known = plain m (Rejected UnknownLabel)
 called_remove m (Some (n, s)) known = called_remove_or m n (state_fault s) known
 
-known : (m : Machine) (label : List ℕ) → IsKnown (length m.sessions) (find_label m label)
-known m label = find_known (length m.sessions) 1 m.sessions label (omega arith) (omega arith)
-
 pub called : (m : Machine) (call : AppCall) → Called m (after_call call m)
 called m (Access name list) = plain m (access_result name (configs_of list))
 called m (Create label kind) = called_create m label kind
-called m (Request label kind init) = called_request m kind init (find_label m label) (known m label)
-called m (Update label response) = called_update m response (find_label m label) (known m label)
-called m (Close label) = called_close m (find_label m label) (known m label)
-called m (Remove label) = called_remove m (find_label m label) (known m label)
+called m (Request label kind init) = called_request m kind init (find_label m label) (label_known m label)
+called m (Update label response) = called_update m response (find_label m label) (label_known m label)
+called m (Close label) = called_close m (find_label m label) (label_known m label)
+called m (Remove label) = called_remove m (find_label m label) (label_known m label)
 called m (Certificate cert) = plain m ResolvedFalse
 
 pub asked_call : (m : Machine) (call : AppCall) → Asked m (after_call call m)
@@ -171,15 +171,46 @@ moved_update m n p response js (Err fault) e owed = moved m m.sessions (UpdateJo
 pub steady_same : (m : Machine) → IsOwed m → Steady m (unmoved m)
 steady_same m owed = record { owed = owed; balance = λ p. omega arith; more = refl }
 
+-- a job does its work
+moved_work : (m : Machine) (job : Job) (js : List Job) → m.jobs ≡ job ∷ js → IsOwed m → Steady m (unmoved (work_job job (record m { jobs = js })))
+moved_work m (RequestJob n kind init p) js e owed = moved_request m n p kind init js (kids_of kind init) e owed
+moved_work m (UpdateJob n response p) js e owed = moved_update m n p response js (key_set response) e owed
+moved_work m (CloseJob n p) js e owed = moved m (change_session m.sessions n cleared) (CloseJob n p) js (CloseDone n p) e (λ q. refl) owed
+moved_work m (RemoveJob n p) js e owed = moved m (change_session m.sessions n without_keys) (RemoveJob n p) js (RemoveDone n p) e (λ q. refl) owed
+
+-- a job owes the promise that it answers
+owes_its_own : (q : ℕ) (job : Job) → one_if (job_promise job) q ≡ job_owes q job
+owes_its_own q (RequestJob n kind init p) = refl
+owes_its_own q (UpdateJob n response p) = refl
+owes_its_own q (CloseJob n p) = refl
+owes_its_own q (RemoveJob n p) = refl
+
+-- a job is refused, or does its work
+moved_either : (m : Machine) (job : Job) (js : List Job) (b : Bool) → m.jobs ≡ job ∷ js → IsOwed m → Steady m (unmoved (if b then queue_task (Reject (job_promise job) InvalidState) (record m { jobs = js }) else work_job job (record m { jobs = js })))
+moved_either m job js true e owed = moved m m.sessions job js (Reject (job_promise job) InvalidState) e (λ q. owes_its_own q job) owed
+moved_either m job js false e owed = moved_work m job js e owed
+
 steady_take : (m : Machine) (js : List Job) → m.jobs ≡ js → IsOwed m → Steady m (unmoved (take_job js m))
 steady_take m [] e owed = steady_same m owed
-steady_take m (RequestJob n kind init p ∷ js) e owed = moved_request m n p kind init js (kids_of kind init) e owed
-steady_take m (UpdateJob n response p ∷ js) e owed = moved_update m n p response js (key_set response) e owed
-steady_take m (CloseJob n p ∷ js) e owed = moved m (change_session m.sessions n cleared) (CloseJob n p) js (CloseDone n p) e (λ q. refl) owed
-steady_take m (RemoveJob n p ∷ js) e owed = moved m (change_session m.sessions n without_keys) (RemoveJob n p) js (RemoveDone n p) e (λ q. refl) owed
+steady_take m (job ∷ js) e owed = moved_either m job js (is_evicted (session_at m.sessions (job_session job))) e owed
 
 pub steady_job : (m : Machine) → IsOwed m → Steady m (after_job m)
 steady_job m owed = steady_take m m.jobs refl owed
+
+-- an eviction owes nothing
+steady_evicted : (m : Machine) (o : Option (ℕ × SessionState)) → IsOwed m → Steady m (unmoved (evict_on m o))
+steady_evicted m None owed = steady_same m owed
+steady_evicted m (Some (n, s)) owed = go (is_ending s) where
+  go : (b : Bool) → Steady m (unmoved (if b then m else evict_numbered n m))
+  go true = steady_same m owed
+  go false = record {
+    owed = λ q. omega (arith, owed q, tasks_more q m.tasks (Evicted n ∷ []));
+    balance = λ q. omega arith;
+    more = refl;
+  }
+
+pub steady_evict : (m : Machine) (label : List ℕ) → IsOwed m → Steady m (after_evict label m)
+steady_evict m label owed = steady_evicted m (find_label m label) owed
 
 -- effects and tasks that settle and owe nothing
 abbrev Quiet : List Effect → Type 0
@@ -219,13 +250,17 @@ quiet_report : (n moment : ℕ) (o : Option SessionState) → Quiet (report_of n
 quiet_report n moment None q = refl
 quiet_report n moment (Some s) q = refl
 
+quiet_closed : (n moment : ℕ) (o : Option SessionState) (reason : Reason) → Quiet (report_of n moment o ++ Closed n reason ∷ [])
+quiet_closed n moment o reason q = times_more q (report_of n moment o) (Closed n reason ∷ []) ∙ omega (arith, quiet_report n moment o q)
+
 steady_task : (m : Machine) (ts us : List Task) → m.tasks ≡ us → IsOwed m → (task : Task) → us ≡ task ∷ ts → Steady m (run_task task (record m { tasks = ts }))
 steady_task m ts us e owed (Reject p error) is = finished m m.sessions (Reject p error) ts [] p (Rejected error) [] (Promise p (Rejected error) ∷ []) (e ∙ is) (λ q. refl) free_none (λ q. refl) refl owed ts (sym (append-nil ts))
 steady_task m ts us e owed (RequestDone n kids p) is = finished m (request_done n kids (record m { tasks = ts })).sessions (RequestDone n kids p) ts (Fire (Message n (next_id m) (request_text kids)) ∷ []) p Resolved [] (Promise p Resolved ∷ []) (e ∙ is) (λ q. refl) (λ q. omega arith) (λ q. refl) refl owed (ts ++ Fire (Message n (next_id m) (request_text kids)) ∷ []) refl
 steady_task m ts us e owed (UpdateDone n true p) is = finished m (change_session m.sessions n (statuses_now m.moment)) (UpdateDone n true p) ts (Fire (KeyStatuses n) ∷ (Resume ∷ [])) p Resolved (report_of n m.moment (session_at m.sessions n)) (report_of n m.moment (session_at m.sessions n) ++ Promise p Resolved ∷ []) (e ∙ is) (λ q. refl) (free_two n) (quiet_report n m.moment (session_at m.sessions n)) refl owed ((ts ++ Fire (KeyStatuses n) ∷ []) ++ Resume ∷ []) (append_assoc ts (Fire (KeyStatuses n) ∷ []) (Resume ∷ []))
 steady_task m ts us e owed (UpdateDone n false p) is = finished m m.sessions (UpdateDone n false p) ts [] p Resolved [] (Promise p Resolved ∷ []) (e ∙ is) (λ q. refl) free_none (λ q. refl) refl owed ts (sym (append-nil ts))
-steady_task m ts us e owed (CloseDone n p) is = finished m (change_session (change_session m.sessions n (statuses_now m.moment)) n (λ s. record s { closed = true })) (CloseDone n p) ts (Fire (KeyStatuses n) ∷ (Resume ∷ [])) p Resolved (report_of n m.moment (session_at m.sessions n) ++ Closed n ∷ []) ((report_of n m.moment (session_at m.sessions n) ++ Closed n ∷ []) ++ Promise p Resolved ∷ []) (e ∙ is) (λ q. refl) (free_two n) (λ q. times_more q (report_of n m.moment (session_at m.sessions n)) (Closed n ∷ []) ∙ omega (arith, quiet_report n m.moment (session_at m.sessions n) q)) refl owed ((ts ++ Fire (KeyStatuses n) ∷ []) ++ Resume ∷ []) (append_assoc ts (Fire (KeyStatuses n) ∷ []) (Resume ∷ []))
+steady_task m ts us e owed (CloseDone n p) is = finished m (change_session (change_session m.sessions n (statuses_now m.moment)) n (closed_for ClosedByApplication)) (CloseDone n p) ts (Fire (KeyStatuses n) ∷ (Resume ∷ [])) p Resolved (report_of n m.moment (session_at m.sessions n) ++ Closed n ClosedByApplication ∷ []) ((report_of n m.moment (session_at m.sessions n) ++ Closed n ClosedByApplication ∷ []) ++ Promise p Resolved ∷ []) (e ∙ is) (λ q. refl) (free_two n) (quiet_closed n m.moment (session_at m.sessions n) ClosedByApplication) refl owed ((ts ++ Fire (KeyStatuses n) ∷ []) ++ Resume ∷ []) (append_assoc ts (Fire (KeyStatuses n) ∷ []) (Resume ∷ []))
 steady_task m ts us e owed (RemoveDone n p) is = finished m (change_session m.sessions n (statuses_now m.moment)) (RemoveDone n p) ts (Fire (KeyStatuses n) ∷ (Resume ∷ [])) p Resolved (report_of n m.moment (session_at m.sessions n)) (report_of n m.moment (session_at m.sessions n) ++ Promise p Resolved ∷ []) (e ∙ is) (λ q. refl) (free_two n) (quiet_report n m.moment (session_at m.sessions n)) refl owed ((ts ++ Fire (KeyStatuses n) ∷ []) ++ Resume ∷ []) (append_assoc ts (Fire (KeyStatuses n) ∷ []) (Resume ∷ []))
+steady_task m ts us e owed (Evicted n) is = ran m (change_session (change_session m.sessions n (statuses_now m.moment)) n (closed_for ResourceEvicted)) m.fired (Evicted n) ts (Fire (KeyStatuses n) ∷ (Resume ∷ [])) (report_of n m.moment (session_at m.sessions n) ++ Closed n ResourceEvicted ∷ []) (e ∙ is) (λ q. refl) (free_two n) (quiet_closed n m.moment (session_at m.sessions n) ResourceEvicted) owed ((ts ++ Fire (KeyStatuses n) ∷ []) ++ Resume ∷ []) (append_assoc ts (Fire (KeyStatuses n) ∷ []) (Resume ∷ []))
 steady_task m ts us e owed (Report n) is = go (is_closed (session_at m.sessions n)) where
   go : (b : Bool) → Steady m (if b then unmoved (record m { tasks = ts }) else update_statuses n (unmoved (record m { tasks = ts })))
   go true = ran m m.sessions m.fired (Report n) ts [] [] (e ∙ is) (λ q. refl) free_none (λ q. refl) owed ts (sym (append-nil ts))

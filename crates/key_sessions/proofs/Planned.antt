@@ -18,17 +18,18 @@ use Rattle.key_sessions.specs.declared.change.Change.{Change}
 use Rattle.key_sessions.specs.declared.job_plan.JobPlan.{JobPlan}
 use Rattle.clearkey_json.specs.declared.key_set.KeySet.{KeySet}
 use Rattle.task_queue.specs.declared.work.Task.{Task}
-use Rattle.task_queue.specs.declared.work.Task.TheVariants.{Reject, RequestDone, UpdateDone, CloseDone, RemoveDone, Report, Fire, Resume}
+use Rattle.task_queue.specs.declared.work.Task.TheVariants.{Reject, RequestDone, UpdateDone, CloseDone, RemoveDone, Evicted, Report, Fire, Resume}
 use Rattle.key_sessions.specs.declared.task_plan.TaskPlan.{TaskPlan}
 use Rattle.key_sessions.specs.declared.change.Change.TheVariants.{Keys}
 use Rattle.key_statuses.specs.TableState.{TableState}
 use Rattle.key_statuses.specs.Table.{grant_all}
 use Rattle.key_statuses.specs.Statuses.{is_changed, held_status}
-use Rattle.key_sessions.specs.Machine.{SessionState, Machine, session_at, change_session}
+use Rattle.key_sessions.specs.Machine.{SessionState, Machine, session_at, status_at, change_session}
 use Rattle.key_sessions.specs.Keys.{held_in, held_key}
 use Rattle.key_sessions.specs.Steps.{Done, unmoved}
-use Rattle.key_sessions.specs.Calls.{after_call}
+use Rattle.key_sessions.specs.Calls.{find_label, after_call}
 use Rattle.key_sessions.specs.Jobs.{update_job, with_set, after_job}
+use Rattle.key_sessions.specs.Evict.{evict_session, open_number, after_evict}
 use Rattle.key_sessions.specs.Tasks.{after_task, reports_from}
 use Rattle.key_sessions.specs.Owed.{task_owes, jobs_owe, tasks_owe, pending, IsOwed, one_if}
 use Rattle.key_sessions.specs.Queued.{AreThere}
@@ -40,12 +41,13 @@ use Rattle.key_sessions.specs.Changes.{changed, changed_in}
 use Rattle.key_sessions.proofs.SessionLists.{change_alike, settle_last, length-change_session}
 use Rattle.key_sessions.proofs.LostKeys.{lost_none}
 use Rattle.key_sessions.proofs.Owed.{one_same, pending_some}
-use Rattle.key_sessions.proofs.There.{there_job, there_task, there_tick}
-use Rattle.key_sessions.proofs.OwedSteps.{called, steady_job, steady_front, steady_tick}
+use Rattle.key_sessions.proofs.Evictions.{evict_open}
+use Rattle.key_sessions.proofs.There.{there_job, there_evict, there_task, there_tick}
+use Rattle.key_sessions.proofs.OwedSteps.{called, steady_job, steady_evict, steady_front, steady_tick}
 
-pub grant_as : (m : Machine) (s : SessionState) (n p moment : ℕ) (set : KeySet) (t : TableState) (ch : Bool) → session_at m.sessions n ≡ Some s → m.moment ≡ moment → t.keys ≡ grant_all s.keys set.keys → length t.keys ≤ MAX_SESSION_KIDS → ch ≡ is_changed s.keys (held_status s.expiration moment) t.keys (held_status set.expires moment) → (let r : Machine = record m { sessions = change_session m.sessions n (changed (Keys t set.expires)); tasks = m.tasks ++ UpdateDone n ch p ∷ [] } in r) ≡ update_job n p (Ok set) m
+pub grant_as : (m : Machine) (s : SessionState) (n p moment : ℕ) (set : KeySet) (t : TableState) (ch : Bool) → session_at m.sessions n ≡ Some s → m.moment ≡ moment → t.keys ≡ grant_all s.keys set.keys → length t.keys ≤ MAX_SESSION_KIDS → ch ≡ is_changed s.keys (status_at moment s) t.keys (held_status set.from set.expires moment) → (let r : Machine = record m { sessions = change_session m.sessions n (changed (Keys t set.from set.expires)); tasks = m.tasks ++ UpdateDone n ch p ∷ [] } in r) ≡ update_job n p (Ok set) m
 grant_as m s n p moment set t ch at mo is few chs =
-    let same : change_session m.sessions n (changed (Keys t set.expires)) ≡ change_session m.sessions n (with_set set) = change_alike m.sessions n s (changed (Keys t set.expires)) (with_set set) at (rw is refl) in
+    let same : change_session m.sessions n (changed (Keys t set.from set.expires)) ≡ change_session m.sessions n (with_set set) = change_alike m.sessions n s (changed (Keys t set.from set.expires)) (with_set set) at (rw is refl) in
     let short : nat_lt MAX_SESSION_KIDS (length (grant_all s.keys set.keys)) ≡ false = le-ltb MAX_SESSION_KIDS (length (grant_all s.keys set.keys)) (let l : length t.keys ≡ length (grant_all s.keys set.keys) = ap length is in omega (arith, l, few)) in
     rw (same, at, short, chs, is, mo) refl
 
@@ -73,6 +75,7 @@ may_settle m task ts settled e is owed = rw is (go task e) where
   go (UpdateDone n changed p) e = one p (UpdateDone n changed p) e refl
   go (CloseDone n p) e = one p (CloseDone n p) e refl
   go (RemoveDone n p) e = one p (RemoveDone n p) e refl
+  go (Evicted n) e = tt
   go (Report n) e = tt
   go (Fire event) e = tt
   go Resume e = tt
@@ -89,6 +92,10 @@ call_state m call plan ss ps js es is sis pis jis eis = rw (sis, pis, jis, eis) 
 -- the state after the front job
 pub job_state : (m : Machine) (job : Job) (js : List Job) (plan : JobPlan) (ss : List SessionState) (us : List Task) → m.jobs ≡ job ∷ js → IsJobPlan job m.sessions m.moment plan → ss ≡ changed_in m.sessions plan.session plan.change → us ≡ m.tasks ++ plan.task ∷ [] → (let d : Done = record { machine = record m { sessions = ss; jobs = js; tasks = us }; effects = [] } in d) ≡ after_job m
 job_state m job js plan ss us e is sis uis = rw (e, sis, uis) (ap (λ (x : Machine). unmoved x) (is (record m { jobs = js }) refl refl))
+
+-- the state after an eviction that ends a session
+pub evict_state : (m : Machine) (label : List ℕ) (n : ℕ) (ss : List SessionState) (us : List Task) → open_number (find_label m label) ≡ Some n → ss ≡ change_session m.sessions n evict_session → us ≡ m.tasks ++ Evicted n ∷ [] → (let d : Done = record { machine = record m { sessions = ss; tasks = us }; effects = [] } in d) ≡ after_evict label m
+evict_state m label n ss us e sis uis = rw (sis, uis) (ap (λ (x : Machine). unmoved x) (sym (evict_open m (find_label m label) n e)))
 
 -- what a step keeps
 length_changed : (ss : List SessionState) (n : ℕ) (change : Option Change) → length (changed_in ss n change) ≡ length ss
@@ -108,6 +115,11 @@ pub kept_job : (m m' : Machine) (n : ℕ) (change : Option Change) (room spare s
 kept_job m m' n change room spare spare' kept sis e le =
     let same : m' ≡ (after_job m).machine = ap (λ (d : Done). d.machine) e in
     kept_by m m' n change room spare spare' kept sis (subst IsOwed (sym same) (steady_job m kept.owed).owed) (subst AreThere (sym same) (there_job m kept.there)) le
+
+pub kept_evict : (m m' : Machine) (label : List ℕ) (n : ℕ) (change : Option Change) (room spare spare' : ℕ) → KeptAs m room spare → m'.sessions ≡ changed_in m.sessions n change → (let d : Done = record { machine = m'; effects = [] } in d) ≡ after_evict label m → room ≤ spare' → KeptAs m' room spare'
+kept_evict m m' label n change room spare spare' kept sis e le =
+    let same : m' ≡ (after_evict label m).machine = ap (λ (d : Done). d.machine) e in
+    kept_by m m' n change room spare spare' kept sis (subst IsOwed (sym same) (steady_evict m label kept.owed).owed) (subst AreThere (sym same) (there_evict m label kept.there)) le
 
 pub kept_task : (m m' : Machine) (n : ℕ) (change : Option Change) (es : List Effect) (room spare spare' : ℕ) → KeptAs m room spare → m'.sessions ≡ changed_in m.sessions n change → (let d : Done = record { machine = m'; effects = es } in d) ≡ after_task m → room ≤ spare' → KeptAs m' room spare'
 kept_task m m' n change es room spare spare' kept sis e le =

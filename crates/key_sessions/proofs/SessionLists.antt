@@ -1,7 +1,8 @@
 -- Lists of sessions, as loops read and change them.
-use Rattle.std.proofs.Common.{zero, suc, ◌≡◌, ℕ, ◌+◌, ◌-◌, ◌<◌, ◌≤◌, true, false, List, [], ◌∷◌, ◌++◌, map, length, take, get_or, set, Option, Some, None, refl, ap, sym, ◌∙◌, arith, add-one}
+use Rattle.std.proofs.Common.{zero, suc, ◌≡◌, ℕ, ◌+◌, ◌-◌, ◌<◌, ◌≤◌, Bool, true, false, List, [], ◌∷◌, ◌++◌, map, length, take, get_or, set, Option, Some, None, refl, ap, sym, ◌∙◌, arith, add-one}
+use Rattle.std.specs.List.{list_any}
 use Rattle.std.specs.Str.{bytes_eq}
-use Rattle.std.specs.Prelude.{slice_get, slice_set}
+use Rattle.std.specs.Prelude.{◌||◌, slice_get, slice_set}
 use Rattle.eme_types.specs.declared.call.Settled.{Settled}
 use Rattle.task_queue.specs.Pending.{settle_in}
 use Rattle.std.proofs.lemmas.List.{length-map}
@@ -96,3 +97,8 @@ change_twice xs (suc i) f g = go xs i where
   go [] i = refl
   go (x ∷ xs) zero = refl
   go (x ∷ xs) (suc i) = ap (λ ys. x ∷ ys) (go xs i)
+
+-- a test of the states is one of the records
+pub list_any-map : {A B : Type 0} (p : B → Bool) (f : A → B) (xs : List A) → list_any p (map f xs) ≡ list_any (λ x. p (f x)) xs
+list_any-map p f [] = refl
+list_any-map p f (x ∷ xs) = ap (λ b. p (f x) || b) (list_any-map p f xs)

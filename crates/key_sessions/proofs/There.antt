@@ -5,7 +5,8 @@ use Rattle.std.specs.Str.{bytes_eq}
 use Rattle.eme_types.specs.declared.limits.TheConstants.{MAX_SESSION_KIDS}
 use Rattle.eme_types.specs.declared.call.Event.{Event}
 use Rattle.eme_types.specs.declared.call.Event.TheVariants.{KeyStatuses, Message}
-use Rattle.eme_types.specs.declared.call.DomError.TheVariants.{TypeFault, Quota}
+use Rattle.eme_types.specs.declared.call.DomError.TheVariants.{InvalidState, TypeFault, Quota}
+use Rattle.eme_types.specs.declared.call.Reason.TheVariants.{ClosedByApplication, ResourceEvicted}
 use Rattle.eme_types.specs.declared.media.InitKind.{InitKind}
 use Rattle.cdm_world.specs.In.{In}
 use Rattle.cdm_world.proofs.Members.{In_more, In_either}
@@ -18,12 +19,13 @@ use Rattle.init_data.specs.InitData.{kids_of, listed, named_kids, first_occurren
 use Rattle.task_queue.specs.declared.work.Job.{Job}
 use Rattle.task_queue.specs.declared.work.Job.TheVariants.{Request as RequestJob, Update as UpdateJob, Close as CloseJob, Remove as RemoveJob}
 use Rattle.task_queue.specs.declared.work.Task.{Task}
-use Rattle.task_queue.specs.declared.work.Task.TheVariants.{Reject, RequestDone, UpdateDone, CloseDone, RemoveDone, Report, Fire, Resume}
+use Rattle.task_queue.specs.declared.work.Task.TheVariants.{Reject, RequestDone, UpdateDone, CloseDone, RemoveDone, Evicted, Report, Fire, Resume}
 use Rattle.key_statuses.specs.Table.{grant_all}
 use Rattle.key_sessions.specs.Machine.{SessionState, Machine, session_at, change_session}
-use Rattle.key_sessions.specs.Steps.{Done, unmoved, with_session, queue_task, update_statuses, statuses_now}
-use Rattle.key_sessions.specs.Calls.{find_from}
-use Rattle.key_sessions.specs.Jobs.{request_job, request_error, grant_set, with_set, is_changed_by, found, update_job, take_job, after_job, cleared, without_keys}
+use Rattle.key_sessions.specs.Steps.{Done, unmoved, with_session, queue_task, update_statuses, statuses_now, closed_for}
+use Rattle.key_sessions.specs.Calls.{find_from, find_label, is_ending}
+use Rattle.key_sessions.specs.Jobs.{request_job, request_error, grant_set, with_set, is_changed_by, found, update_job, work_job, job_session, job_promise, is_evicted, take_job, after_job, cleared, without_keys}
+use Rattle.key_sessions.specs.Evict.{evict_session, evict_numbered, evict_on, after_evict}
 use Rattle.key_sessions.specs.Tasks.{run_task, take_task, after_task, is_closed, is_reported, next_id, reports_from, after_tick}
 use Rattle.key_sessions.specs.Queued.{IsNumber, IsJobOf, IsTaskOf, AreThere}
 use Rattle.key_sessions.proofs.SessionLists.{length-change_session}
@@ -37,6 +39,7 @@ more_tasks a b (RequestDone n kids p) le of = of
 more_tasks a b (UpdateDone n changed p) le of = (of.0, omega (arith, le, of.1))
 more_tasks a b (CloseDone n p) le of = (of.0, omega (arith, le, of.1))
 more_tasks a b (RemoveDone n p) le of = (of.0, omega (arith, le, of.1))
+more_tasks a b (Evicted n) le of = (of.0, omega (arith, le, of.1))
 more_tasks a b (Report n) le of = tt
 more_tasks a b (Fire event) le of = tt
 more_tasks a b Resume le of = tt
@@ -68,6 +71,10 @@ find_known count n (s ∷ ss) label from within = go (find_known count (n + 1) s
   go : IsKnown count (find_from (n + 1) ss label) → (b : Bool) → IsKnown count (if b then Some (n, s) else find_from (n + 1) ss label)
   go rest true = (from, omega (arith, within))
   go rest false = rest
+
+-- the session with the label is one of those that are there
+pub label_known : (m : Machine) (label : List ℕ) → IsKnown (length m.sessions) (find_label m label)
+label_known m label = find_known (length m.sessions) 1 m.sessions label (omega arith) (omega arith)
 
 -- ---- jobs
 
@@ -106,15 +113,36 @@ there_update m n p (Err fault) of there = there_queued m m.sessions (Reject p Ty
 less_job : (m : Machine) (job : Job) (js : List Job) → m.jobs ≡ job ∷ js → AreThere m → AreThere (record m { jobs = js })
 less_job m job js e there = record { jobs = λ other at. there.jobs other (rw e (inr at)); tasks = there.tasks }
 
+-- a job does its work
+there_worked : (m : Machine) (job : Job) → IsJobOf (length m.sessions) job → AreThere m → AreThere (work_job job m)
+there_worked m (RequestJob n kind init p) of there = there_request m n p (kids_of kind init) (λ kids is. some_kids kind init kids is) there
+there_worked m (UpdateJob n response p) of there = there_update m n p (key_set response) of there
+there_worked m (CloseJob n p) of there = there_queued m (change_session m.sessions n cleared) (CloseDone n p) (length-change_session m.sessions n cleared) of there
+there_worked m (RemoveJob n p) of there = there_queued m (change_session m.sessions n without_keys) (RemoveDone n p) (length-change_session m.sessions n without_keys) of there
+
+-- a job is refused, or does its work
+there_either : (m : Machine) (job : Job) (b : Bool) → IsJobOf (length m.sessions) job → AreThere m → AreThere (if b then queue_task (Reject (job_promise job) InvalidState) m else work_job job m)
+there_either m job true of there = there_queued m m.sessions (Reject (job_promise job) InvalidState) refl tt there
+there_either m job false of there = there_worked m job of there
+
 there_taken : (m : Machine) (js : List Job) → m.jobs ≡ js → AreThere m → AreThere (take_job js m)
 there_taken m [] e there = there
-there_taken m (RequestJob n kind init p ∷ js) e there = there_request (record m { jobs = js }) n p (kids_of kind init) (λ kids is. some_kids kind init kids is) (less_job m (RequestJob n kind init p) js e there)
-there_taken m (UpdateJob n response p ∷ js) e there = there_update (record m { jobs = js }) n p (key_set response) (there.jobs (UpdateJob n response p) (rw e (inl refl))) (less_job m (UpdateJob n response p) js e there)
-there_taken m (CloseJob n p ∷ js) e there = there_queued (record m { jobs = js }) (change_session m.sessions n cleared) (CloseDone n p) (length-change_session m.sessions n cleared) (there.jobs (CloseJob n p) (rw e (inl refl))) (less_job m (CloseJob n p) js e there)
-there_taken m (RemoveJob n p ∷ js) e there = there_queued (record m { jobs = js }) (change_session m.sessions n without_keys) (RemoveDone n p) (length-change_session m.sessions n without_keys) (there.jobs (RemoveJob n p) (rw e (inl refl))) (less_job m (RemoveJob n p) js e there)
+there_taken m (job ∷ js) e there = there_either (record m { jobs = js }) job (is_evicted (session_at m.sessions (job_session job))) (there.jobs job (rw e (inl refl))) (less_job m job js e there)
 
 pub there_job : (m : Machine) → AreThere m → AreThere (after_job m).machine
 there_job m there = there_taken m m.jobs refl there
+
+-- ---- evictions
+
+there_evicted : (m : Machine) (o : Option (ℕ × SessionState)) → IsKnown (length m.sessions) o → AreThere m → AreThere (evict_on m o)
+there_evicted m None known there = there
+there_evicted m (Some (n, s)) known there = go (is_ending s) where
+  go : (b : Bool) → AreThere (if b then m else evict_numbered n m)
+  go true = there
+  go false = there_queued m (change_session m.sessions n evict_session) (Evicted n) (length-change_session m.sessions n evict_session) known there
+
+pub there_evict : (m : Machine) (label : List ℕ) → AreThere m → AreThere (after_evict label m).machine
+there_evict m label there = there_evicted m (find_label m label) (label_known m label) there
 
 -- ---- tasks
 
@@ -133,8 +161,9 @@ there_run m (Reject p error) there = there_same m _ refl refl refl there
 there_run m (RequestDone n kids p) there = there_fired m _ (Message n (next_id m) (request_text kids)) (length-change_session m.sessions n _) refl refl there
 there_run m (UpdateDone n true p) there = there_reported m _ n (length-change_session m.sessions n (statuses_now m.moment)) refl refl there
 there_run m (UpdateDone n false p) there = there_same m _ refl refl refl there
-there_run m (CloseDone n p) there = there_reported m _ n (rw (length-change_session (change_session m.sessions n (statuses_now m.moment)) n (λ s. record s { closed = true })) (length-change_session m.sessions n (statuses_now m.moment))) refl refl there
+there_run m (CloseDone n p) there = there_reported m _ n (rw (length-change_session (change_session m.sessions n (statuses_now m.moment)) n (closed_for ClosedByApplication)) (length-change_session m.sessions n (statuses_now m.moment))) refl refl there
 there_run m (RemoveDone n p) there = there_reported m _ n (length-change_session m.sessions n (statuses_now m.moment)) refl refl there
+there_run m (Evicted n) there = there_reported m _ n (rw (length-change_session (change_session m.sessions n (statuses_now m.moment)) n (closed_for ResourceEvicted)) (length-change_session m.sessions n (statuses_now m.moment))) refl refl there
 there_run m (Report n) there = go (is_closed (session_at m.sessions n)) where
   go : (b : Bool) → AreThere (let d : Done = if b then unmoved m else update_statuses n (unmoved m) in d).machine
   go true = there

@@ -15,6 +15,11 @@ abbrev pub is_open : Option (ℕ × SessionState) → Bool
 is_open None = false
 is_open (Some (n, s)) = not (is_ending s)
 
+-- the number of a session that is neither closing nor closed
+abbrev pub open_number : Option (ℕ × SessionState) → Option ℕ
+open_number None = None
+open_number (Some (n, s)) = if is_ending s then None else Some n
+
 -- whether an eviction of the label ends a session: it names one that is neither closing nor closed
 abbrev pub evicts : List ℕ → Machine → Bool
 evicts label m = is_open (find_label m label)

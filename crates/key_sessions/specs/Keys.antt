@@ -1,5 +1,6 @@
 -- Which keys can be used now.
-use Rattle.std.specs.Prelude.{ℕ, ◌+◌, ◌&&◌, ◌||◌, not, Bool, false, if◌then◌else◌, List, [], ◌∷◌, Option, Some, None, is_some}
+use Rattle.std.specs.Prelude.{ℕ, ◌+◌, ◌&&◌, not, Bool, if◌then◌else◌, List, [], ◌∷◌, Option, Some, None, is_some}
+use Rattle.std.specs.List.{list_any}
 use Rattle.eme_types.specs.declared.kid.KeyBytes.{KeyBytes}
 use Rattle.key_statuses.specs.Table.{key_in}
 use Rattle.key_statuses.specs.Statuses.{is_usable, is_usable_later}
@@ -40,11 +41,6 @@ pick m kid = pick_from m.moment 1 m.sessions kid
 abbrev pub holds_later : ℕ → List ℕ → SessionState → Bool
 holds_later moment kid s = not s.closed && (is_usable_later (status_at moment s) && is_some (key_in s.keys kid))
 
--- some of these sessions does
-abbrev pub any_later : ℕ → List ℕ → List SessionState → Bool
-any_later moment kid [] = false
-any_later moment kid (s ∷ more) = holds_later moment kid s || any_later moment kid more
-
 -- some session that is not closed holds under the id a key that is usable later
 abbrev pub is_later : Machine → List ℕ → Bool
-is_later m kid = any_later m.moment kid m.sessions
+is_later m kid = list_any (holds_later m.moment kid) m.sessions

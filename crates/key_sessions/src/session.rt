@@ -1,9 +1,11 @@
 // One session.
-ghost use Rattle.std.specs.Prelude.{◌≡◌, ◌+◌, [], map, Some, None, IfOk, MatchOption, length};
+ghost use Rattle.std.specs.Prelude.{◌≡◌, ◌+◌, ◌≤◌, [], map, Some, None, IfOk, MatchOption, length};
+ghost use Rattle.eme_types.specs.declared.limits.TheConstants.{MAX_SESSIONS};
 ghost use Rattle.key_sessions.specs.SessionOf.{session_of};
 ghost use Rattle.key_sessions.specs.Machine.{new_session, session_at};
 ghost use Rattle.key_sessions.specs.Keys.{usable_key, holds_later as later_holds};
-ghost use Rattle.key_sessions.specs.Calls.{is_ending, state_fault as fault_of_state, or_empty};
+ghost use Rattle.key_sessions.specs.Calls.{find_from, is_ending, state_fault as fault_of_state, or_empty};
+ghost use Rattle.key_sessions.specs.Evict.{open_number};
 ghost use Rattle.key_sessions.specs.Changes.{LabelFound};
 ghost use Rattle.key_sessions.specs.Queued.{IsNumber};
 
@@ -89,6 +91,18 @@ pub fn ends(session: &Session) -> bool
     ensures { result ≡ is_ending (session_of session.now) }
 {
     session.closing || session.closed
+}
+
+/// The number of the first session with the label, where it is neither closing nor closed.
+pub fn open_session(sessions: &[Session], label: &[u8]) -> Option<u32>
+    requires { length sessions.now ≤ MAX_SESSIONS }
+    ensures { result ≡ open_number (find_from 1 (map session_of sessions.now) label.now) }
+{
+    let at = find_label(sessions, label)?;
+    if ends(&sessions[at]) {
+        return None;
+    }
+    Some(at as u32 + 1)
 }
 
 /// Why a session refuses an update or a removal by its state.

@@ -19,7 +19,7 @@ ghost use Rattle.key_sessions.specs.Evict.{after_evict, evicts};
 ghost use Rattle.key_sessions.specs.Tasks.{after_task, after_tick};
 
 use crate::call_plan::{CallPlan, add_session, give_answer, plan_call, tell};
-use crate::change::{change_session, eviction};
+use crate::change::{Change, change_session};
 use crate::fault::StepFault;
 use crate::job_plan::{JobPlan, plan_job};
 use crate::losses::{lost_by, lost_in_time};
@@ -211,21 +211,21 @@ impl Sessions {
         ensures open { IfOk result (λ b. b ≡ evicts label.now self.old.machine) }
         ensures err { OnErr result (self.new ≡ self.old) }
     {
-        let found = open_session(&self.items, label);
-        let change = eviction(found);
-        let number = found.unwrap_or(0);
-        let lost = lost_by(self.alloc, &self.items, number, &change, self.moment)?;
+        let Some(session) = open_session(&self.items, label) else {
+            self.last = no_step(self.alloc);
+            return Ok(false);
+        };
+        let change = Some(Change::Evicted);
+        let lost = lost_by(self.alloc, &self.items, session, &change, self.moment)?;
         let wanted = room_for(self.room, 1)?;
         self.tasks.reserve(wanted)?;
-        change_session(&mut self.items, number, change);
-        if let Some(session) = found {
-            self.tasks.put(Task::Evicted { session });
-        }
+        change_session(&mut self.items, session, change);
+        self.tasks.put(Task::Evicted { session });
         self.last = Step {
             effects: Effects::new(self.alloc),
             lost,
         };
-        Ok(found.is_some())
+        Ok(true)
     }
 
     /// Whether a session that is not closed holds under an id a key that is usable later (Encrypted Media Extensions,

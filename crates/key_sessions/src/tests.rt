@@ -80,7 +80,9 @@ fn told(alloc: Global, sessions: &Sessions) -> Result<String, AllocError> {
     for effect in sessions.effects() {
         let piece = match effect {
             Effect::Statuses { session, list } => reported(alloc, *session, list)?,
-            Effect::Closed { session } => format!(in alloc; "closed {session}")?,
+            Effect::Closed { session, reason } => {
+                format!(in alloc; "closed {session} {reason:?}")?
+            }
             Effect::Promise { promise, how } => settled(alloc, *promise, how)?,
             Effect::Fired { event } => fired(alloc, event)?,
         };

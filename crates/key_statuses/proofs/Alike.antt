@@ -5,7 +5,7 @@ use Rattle.std.proofs.lemmas.Slice.Eq.{bytes_eq-Decides}
 use Rattle.std.proofs.lemmas.Bool.Decides.{Decides-and, Decides-like}
 use Rattle.eme_types.specs.declared.kid.KeyBytes.{KeyBytes}
 use Rattle.eme_types.specs.declared.kid.Status.{Status}
-use Rattle.eme_types.specs.declared.kid.Status.TheVariants.{Usable, Expired, Released}
+use Rattle.eme_types.specs.declared.kid.Status.TheVariants.{Usable, Expired, Released, UsableInFuture}
 use Rattle.key_statuses.specs.declared.table.KnownKey.{KnownKey}
 use Rattle.key_statuses.specs.Statuses.{same_key, same_table, same_status, same_statuses, statuses, is_changed}
 
@@ -44,12 +44,19 @@ status_alike : (a b : Status) → Decides (same_status a b) (a ≡ b)
 status_alike Usable Usable = (λ _. refl, λ _. refl)
 status_alike Usable Expired = (λ e. cc, λ e. cc)
 status_alike Usable Released = (λ e. cc, λ e. cc)
+status_alike Usable UsableInFuture = (λ e. cc, λ e. cc)
 status_alike Expired Usable = (λ e. cc, λ e. cc)
 status_alike Expired Expired = (λ _. refl, λ _. refl)
 status_alike Expired Released = (λ e. cc, λ e. cc)
+status_alike Expired UsableInFuture = (λ e. cc, λ e. cc)
 status_alike Released Usable = (λ e. cc, λ e. cc)
 status_alike Released Expired = (λ e. cc, λ e. cc)
 status_alike Released Released = (λ _. refl, λ _. refl)
+status_alike Released UsableInFuture = (λ e. cc, λ e. cc)
+status_alike UsableInFuture Usable = (λ e. cc, λ e. cc)
+status_alike UsableInFuture Expired = (λ e. cc, λ e. cc)
+status_alike UsableInFuture Released = (λ e. cc, λ e. cc)
+status_alike UsableInFuture UsableInFuture = (λ _. refl, λ _. refl)
 
 abbrev status_as : List ℕ → Status → List ℕ × Status
 status_as kid status = (kid, status)

@@ -25,11 +25,12 @@ fn three_ids(alloc: Global) -> Result<KeyTable, Fail> {
 /// Whether 01, 0100 and 02 are reported in this order, with these statuses.
 fn reports(
     table: &KeyTable,
+    from: Option<u64>,
     expiration: Option<u64>,
     moment: u64,
     want: [Status; 3],
 ) -> Result<bool, Fail> {
-    let list = table.statuses(expiration, moment)?;
+    let list = table.statuses(from, expiration, moment)?;
     match list.as_slice() {
         [(first, a), (second, b), (third, c)] => {
             if first.bytes() != b"\x01".as_slice() || second.bytes() != b"\x01\x00".as_slice() {
@@ -44,21 +45,34 @@ fn reports(
 #[test]
 fn statuses_are_sorted_and_of_the_moment(rt: HostRuntime) -> Result<(), Fail> {
     let mut table = three_ids(rt.alloc())?;
-    for (expiration, moment, want) in [
-        (None, 1000, Status::Usable),
-        (Some(1000), 999, Status::Usable),
-        (Some(1000), 1000, Status::Expired),
+    for (from, expiration, moment, want) in [
+        (None, None, 1000, Status::Usable),
+        (None, Some(1000), 999, Status::Usable),
+        (None, Some(1000), 1000, Status::Expired),
+        (Some(500), None, 499, Status::UsableInFuture),
+        (Some(500), None, 500, Status::Usable),
+        (Some(500), None, 501, Status::Usable),
+        (Some(500), Some(1000), 1000, Status::Expired),
+        (Some(1000), Some(500), 499, Status::UsableInFuture),
+        (Some(1000), Some(500), 500, Status::Expired),
+        (Some(1000), Some(500), 1000, Status::Expired),
     ] {
-        assert_eq!(rt; usable_at(expiration, moment), want == Status::Usable);
+        assert_eq!(rt; usable_at(from, expiration, moment), want == Status::Usable);
         assert!(rt;
-            reports(&table, expiration, moment, [want, want, want])?,
+            reports(&table, from, expiration, moment, [want, want, want])?,
             "at {moment}"
         );
     }
     table.release_all();
     table.grant(KeyId::new(rt.alloc(), b"\x02")?, key(7))?;
-    let want = [Status::Released, Status::Released, Status::Expired];
-    assert!(rt; reports(&table, Some(1000), 1001, want)?);
+    for (from, expiration, held) in [
+        (None, Some(1000), Status::Expired),
+        (Some(1002), None, Status::UsableInFuture),
+        (Some(1001), None, Status::Usable),
+    ] {
+        let want = [Status::Released, Status::Released, held];
+        assert!(rt; reports(&table, from, expiration, 1001, want)?);
+    }
     Ok(())
 }
 
@@ -83,11 +97,13 @@ fn a_changed_table_differs(rt: HostRuntime) -> Result<(), Fail> {
     assert!(rt; same_table(table.as_slice(), other.as_slice()));
     other.grant(KeyId::new(rt.alloc(), b"\x01")?, key(5))?;
     assert!(rt; !same_table(table.as_slice(), other.as_slice()));
-    let before = statuses_of(rt.alloc(), table.as_slice(), held_status(None, 3))?;
-    let mut after = other.statuses(None, 3)?;
+    let before = statuses_of(rt.alloc(), table.as_slice(), held_status(None, None, 3))?;
+    let mut after = other.statuses(None, None, 3)?;
     assert!(rt; same_statuses(before.as_slice(), after.as_slice()));
+    after = table.statuses(Some(4), None, 3)?;
+    assert!(rt; !same_statuses(before.as_slice(), after.as_slice()));
     other.release_all();
-    after = other.statuses(None, 3)?;
+    after = other.statuses(None, None, 3)?;
     assert!(rt; !same_statuses(before.as_slice(), after.as_slice()));
     Ok(())
 }

@@ -12,10 +12,10 @@ use Rattle.eme_types.specs.declared.sample.EncSample.{EncSample}
 use Rattle.eme_types.specs.declared.media.Fragment.{Fragment}
 use Rattle.eme_types.specs.declared.media.Media.{Media}
 use Rattle.eme_types.specs.declared.entry.Entry.{Entry}
-use Rattle.eme_types.specs.declared.entry.Entry.TheVariants.{Call, Job, Task, Tick, Feed, Claim, Deliver, GiveUp, Publish, PassClear, WaitForKey, Settle}
+use Rattle.eme_types.specs.declared.entry.Entry.TheVariants.{Call, Job, Task, Tick, Feed, Evict, Claim, Deliver, GiveUp, Publish, PassClear, WaitForKey, Settle}
 use Rattle.script_lang.specs.declared.script.Line.{Line}
 use Rattle.script_lang.specs.declared.script.Action.{Action}
-use Rattle.script_lang.specs.declared.script.Action.TheVariants.{Ask, Feed as FeedAction, Clock, Settle as SettleAction}
+use Rattle.script_lang.specs.declared.script.Action.TheVariants.{Ask, Feed as FeedAction, Clock, Evict as EvictAction, Settle as SettleAction}
 use Rattle.cdm_world.specs.Tracks.{TrackState, find_track}
 use Rattle.key_sessions.specs.Keys.{pick}
 use Rattle.cdm_state.specs.History.{world, IsLegal, Allowed, IsAt, MayClaim}
@@ -29,15 +29,17 @@ use Rattle.output_order.specs.Law.{IsOnTheWay}
 use Rattle.output_order.proofs.LineReading.{Here, IsOfNext, MayCome, claim_on, next_index}
 use Rattle.output_order.proofs.FedLengths.{track_samples}
 
--- a call and a tick have a line
+-- a call, a tick and an eviction have a line
 abbrev IsNumbered : Entry → Type 0
 IsNumbered (Call lane line call) = line ≢ 0
 IsNumbered (Tick line moment) = line ≢ 0
+IsNumbered (Evict line label) = line ≢ 0
 IsNumbered e = Unit {0}
 
 of_line : (e : Entry) → IsOfLine e → IsNumbered e
 of_line (Call lane line call) is = is
 of_line (Tick line moment) is = is
+of_line (Evict line label) is = is
 of_line e is = tt
 
 of_lines : (es : List Entry) → AllByRecursion IsOfLine es → AllByRecursion IsNumbered es
@@ -66,6 +68,7 @@ all_both P (x ∷ xs) ys a b = (a.0, all_both P xs ys a.1 b)
 asked_numbered : (e : Entry) (es : List Entry) → AllByRecursion IsNumbered (asked e ++ es) → IsNumbered e
 asked_numbered (Call lane line call) es all = all.0
 asked_numbered (Tick line moment) es all = all.0
+asked_numbered (Evict line label) es all = all.0
 asked_numbered e es all = tt
 
 same_number : (n : ℕ) → (n == n) ≡ true
@@ -170,6 +173,7 @@ may_come n script media c Job few small short legal f = tt
 may_come n script media c Task few small short legal f = tt
 may_come n script media c (Tick line moment) few small short legal f = f.next (record { number = line; lane = 0; action = Clock moment }) (with_line line 0 (Clock moment) f.numbered) (omega arith)
 may_come n script media c (Feed line fragment) few small short legal f = (of_next n script media c (Feed line fragment) line FeedAction refl f, f.given fragment refl)
+may_come n script media c (Evict line label) few small short legal f = f.next (record { number = line; lane = 0; action = EvictAction label }) (with_line line 0 (EvictAction label) f.numbered) (omega arith)
 may_come n script media c (Claim worker track index session kid) few small short legal f =
     let may = f.allowed in
     let named : worker ≤ n = f.worker in

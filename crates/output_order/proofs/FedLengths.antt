@@ -9,7 +9,7 @@ use Rattle.eme_types.specs.declared.limits.TheConstants.{MAX_SAMPLES}
 use Rattle.eme_types.specs.declared.media.TrackPart.{TrackPart}
 use Rattle.eme_types.specs.declared.media.Fragment.{Fragment}
 use Rattle.eme_types.specs.declared.entry.Entry.{Entry}
-use Rattle.eme_types.specs.declared.entry.Entry.TheVariants.{Call, Job, Task, Tick, Feed, Claim, Deliver, GiveUp, Publish, PassClear, WaitForKey, Settle}
+use Rattle.eme_types.specs.declared.entry.Entry.TheVariants.{Call, Job, Task, Tick, Feed, Evict, Claim, Deliver, GiveUp, Publish, PassClear, WaitForKey, Settle}
 use Rattle.eme_types.specs.Fed.{part_samples}
 use Rattle.cdm_world.specs.Tracks.{Picks, TrackState, empty_track, head, has_pick, find_track, change_track, feed_part, feed_parts, add_samples, one_more, set_waiting, resumed}
 use Rattle.key_sessions.specs.Keys.{pick}
@@ -68,6 +68,7 @@ entry_samples w Job = omega arith
 entry_samples w Task = task_samples (resumes w.machine.tasks) (pick w.machine) w.tracks
 entry_samples w (Tick line moment) = omega arith
 entry_samples w (Feed line fragment) = feed_samples w fragment
+entry_samples w (Evict line label) = omega arith
 entry_samples w (Claim worker track index session kid) = omega arith
 entry_samples w (Deliver place verdict) = omega arith
 entry_samples w (GiveUp place) = omega arith

@@ -15,10 +15,10 @@ use Rattle.eme_types.specs.declared.media.Fragment.{Fragment}
 use Rattle.eme_types.specs.declared.entry.Verdict.{Verdict}
 use Rattle.eme_types.specs.declared.entry.Verdict.TheVariants.{Taken, Stale}
 use Rattle.eme_types.specs.declared.entry.Entry.{Entry}
-use Rattle.eme_types.specs.declared.entry.Entry.TheVariants.{Call, Job, Task, Tick, Feed, Claim, Deliver, GiveUp, Publish, PassClear, WaitForKey, Settle}
+use Rattle.eme_types.specs.declared.entry.Entry.TheVariants.{Call, Job, Task, Tick, Feed, Evict, Claim, Deliver, GiveUp, Publish, PassClear, WaitForKey, Settle}
 use Rattle.script_lang.specs.declared.script.Line.{Line}
 use Rattle.script_lang.specs.declared.script.Action.{Action}
-use Rattle.script_lang.specs.declared.script.Action.TheVariants.{Ask, Feed as FeedAction, Clock, Settle as SettleAction}
+use Rattle.script_lang.specs.declared.script.Action.TheVariants.{Ask, Feed as FeedAction, Clock, Evict as EvictAction, Settle as SettleAction}
 use Rattle.cdm_world.specs.Tracks.{TrackState, find_track}
 use Rattle.key_sessions.specs.Machine.{Machine}
 use Rattle.key_sessions.specs.Keys.{pick}
@@ -147,6 +147,14 @@ abbrev tick_of : Option Line → Option Entry
 tick_of None = None
 tick_of (Some line) = tick_as line.number line.action
 
+abbrev evict_as : ℕ → Action → Option Entry
+evict_as number (EvictAction label) = Some (Evict number label)
+evict_as number action = None
+
+abbrev evict_of : Option Line → Option Entry
+evict_of None = None
+evict_of (Some line) = evict_as line.number line.action
+
 abbrev number_of : Option Line → ℕ
 number_of None = 0
 number_of (Some line) = line.number
@@ -187,13 +195,14 @@ read_words s verb a b c =
     else (if bytes_eq verb (codes "task") then Some Task
     else (if bytes_eq verb (codes "tick") then tick_of (s.next 0)
     else (if bytes_eq verb (codes "feed") then Some (Feed (line_number a (s.next 0)) s.fragment)
+    else (if bytes_eq verb (codes "evict") then evict_of (s.next 0)
     else (if bytes_eq verb (codes "claim") then claim_on s.state (value_of a) (value_of b) (value_of c)
     else (if bytes_eq verb (codes "deliver") then Some (Deliver (value_of a) (verdict_of b))
     else (if bytes_eq verb (codes "giveup") then Some (GiveUp (value_of a))
     else (if bytes_eq verb (codes "publish") then Some (Publish (value_of a) (next_index (find_track s.state.tracks (value_of a))) (value_of c))
     else (if bytes_eq verb (codes "clear") then Some (PassClear (value_of a) (next_index (find_track s.state.tracks (value_of a))))
     else (if bytes_eq verb (codes "wait") then Some (WaitForKey (value_of a))
-    else Some (Settle (line_number a (s.next 0)))))))))))))
+    else Some (Settle (line_number a (s.next 0))))))))))))))
 
 -- the entry that a text behind a place begins with
 pub read_entry : Here → List ℕ → Option Entry
@@ -210,6 +219,7 @@ MayCome s Job = Unit {0}
 MayCome s Task = Unit {0}
 MayCome s (Tick line moment) = s.next 0 ≡ Some (record { number = line; lane = 0; action = Clock moment })
 MayCome s (Feed line fragment) = IsOfNext s line FeedAction × (fragment ≡ s.fragment)
+MayCome s (Evict line label) = s.next 0 ≡ Some (record { number = line; lane = 0; action = EvictAction label })
 MayCome s (Claim worker track index session kid) = (worker < 2 ^ 64) × (track < 2 ^ 64) × (index < 2 ^ 64) × (claim_on s.state worker track index ≡ Some (Claim worker track index session kid))
 MayCome s (Deliver place verdict) = place < 2 ^ 64
 MayCome s (GiveUp place) = place < 2 ^ 64
@@ -246,6 +256,7 @@ read_back s n Job r may = refl
 read_back s n Task r may = refl
 read_back s n (Tick line moment) r may = ap (λ (o : Option Line). tick_of o) may
 read_back s n (Feed line fragment) r may = ap (λ (w : List ℕ). Some (Feed (line_number w (s.next 0)) s.fragment)) (first_number line (codes " " ++ (fragment_name n fragment ++ codes "\n")) r (omega arith)) ∙ (ap (λ (k : ℕ). Some (Feed k s.fragment)) (number_read s line FeedAction may.0) ∙ ap (λ (f : Option Fragment). Some (Feed line f)) (sym may.1))
+read_back s n (Evict line label) r may = ap (λ (o : Option Line). evict_of o) may
 read_back s n (Claim worker track index session kid) r may =
     let end : List ℕ = codes " " ++ (decimal session ++ (codes " " ++ (hex_text kid ++ codes "\n"))) in
     let text : List ℕ = entry_words n (Claim worker track index session kid) ++ r in

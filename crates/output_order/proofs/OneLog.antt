@@ -6,7 +6,7 @@ use Rattle.std.proofs.lemmas.List.{append_cancel_left}
 use Rattle.std.proofs.lemmas.Option.{same_Some}
 use Rattle.eme_types.specs.declared.media.Media.{Media}
 use Rattle.eme_types.specs.declared.entry.Entry.{Entry}
-use Rattle.eme_types.specs.declared.entry.Entry.TheVariants.{Call, Job, Task, Tick, Feed, Claim, Deliver, GiveUp, Publish, PassClear, WaitForKey, Settle}
+use Rattle.eme_types.specs.declared.entry.Entry.TheVariants.{Call, Job, Task, Tick, Feed, Evict, Claim, Deliver, GiveUp, Publish, PassClear, WaitForKey, Settle}
 use Rattle.script_lang.specs.declared.script.Line.{Line}
 use Rattle.key_sessions.specs.World.{World}
 use Rattle.cdm_state.specs.After.{after_entry, effects_of}
@@ -23,6 +23,7 @@ some_words n Job = omega arith
 some_words n Task = omega arith
 some_words n (Tick line moment) = omega arith
 some_words n (Feed line fragment) = omega arith
+some_words n (Evict line label) = omega arith
 some_words n (Claim worker track index session kid) = omega arith
 some_words n (Deliver place verdict) = omega arith
 some_words n (GiveUp place) = omega arith

@@ -6,7 +6,7 @@ use Rattle.eme_types.specs.declared.limits.TheConstants.{MAX_LANES}
 use Rattle.eme_types.specs.declared.media.Fragment.{Fragment}
 use Rattle.eme_types.specs.declared.media.Media.{Media}
 use Rattle.eme_types.specs.declared.entry.Entry.{Entry}
-use Rattle.eme_types.specs.declared.entry.Entry.TheVariants.{Call, Tick, Feed, Settle}
+use Rattle.eme_types.specs.declared.entry.Entry.TheVariants.{Call, Tick, Feed, Evict, Settle}
 use Rattle.script_lang.specs.declared.script.Line.{Line}
 use Rattle.cdm_state.specs.History.{world, AtRest}
 use Rattle.output_order.specs.Lane.{lines_in, lane, asked_in, feeds_in}
@@ -47,6 +47,7 @@ abbrev pub IsOfLine : Entry → Type 0
 IsOfLine (Call lane line call) = line ≢ 0
 IsOfLine (Tick line moment) = line ≢ 0
 IsOfLine (Feed line fragment) = line ≢ 0
+IsOfLine (Evict line label) = line ≢ 0
 IsOfLine (Settle line) = line ≢ 0
 IsOfLine e = ⊥
 

@@ -4,12 +4,14 @@ use Rattle.std.specs.List.{flat_map}
 use Rattle.std.specs.Fmt.{decimal}
 use Rattle.hex.specs.Hex.{encode_lower}
 use Rattle.eme_types.specs.declared.kid.Status.{Status}
-use Rattle.eme_types.specs.declared.kid.Status.TheVariants.{Usable, Expired, Released}
+use Rattle.eme_types.specs.declared.kid.Status.TheVariants.{Usable, Expired, Released, UsableInFuture}
 use Rattle.eme_types.specs.declared.media.InitKind.{InitKind}
 use Rattle.eme_types.specs.declared.media.InitKind.TheVariants.{Cenc, Keyids}
 use Rattle.eme_types.specs.declared.media.Fragment.{Fragment}
 use Rattle.eme_types.specs.declared.call.DomError.{DomError}
 use Rattle.eme_types.specs.declared.call.DomError.TheVariants.{InvalidState, TypeFault, NotSupported, Quota, UnknownLabel}
+use Rattle.eme_types.specs.declared.call.Reason.{Reason}
+use Rattle.eme_types.specs.declared.call.Reason.TheVariants.{ClosedByApplication, ResourceEvicted}
 use Rattle.eme_types.specs.declared.call.Settled.{Settled}
 use Rattle.eme_types.specs.declared.call.Settled.TheVariants.{Resolved, ResolvedFalse, ResolvedConfig, Rejected}
 use Rattle.eme_types.specs.declared.call.Event.{Event}
@@ -19,7 +21,7 @@ use Rattle.eme_types.specs.declared.call.Effect.TheVariants.{Statuses, Closed, P
 use Rattle.eme_types.specs.declared.entry.Verdict.{Verdict}
 use Rattle.eme_types.specs.declared.entry.Verdict.TheVariants.{Taken, Stale}
 use Rattle.eme_types.specs.declared.entry.Entry.{Entry}
-use Rattle.eme_types.specs.declared.entry.Entry.TheVariants.{Call, Job, Task, Tick, Feed, Claim, Deliver, GiveUp, Publish, PassClear, WaitForKey, Settle}
+use Rattle.eme_types.specs.declared.entry.Entry.TheVariants.{Call, Job, Task, Tick, Feed, Evict, Claim, Deliver, GiveUp, Publish, PassClear, WaitForKey, Settle}
 use Rattle.key_sessions.specs.World.{World, empty_world}
 use Rattle.cdm_state.specs.After.{after_entry, effects_of}
 
@@ -45,6 +47,7 @@ entry_words n Job = codes " job\n"
 entry_words n Task = codes " task\n"
 entry_words n (Tick line moment) = codes " tick " ++ (decimal line ++ (codes " " ++ (decimal moment ++ codes "\n")))
 entry_words n (Feed line fragment) = codes " feed " ++ (decimal line ++ (codes " " ++ (fragment_name n fragment ++ codes "\n")))
+entry_words n (Evict line label) = codes " evict " ++ (decimal line ++ codes "\n")
 entry_words n (Claim worker track index session kid) = codes " claim " ++ (decimal worker ++ (codes " " ++ (decimal track ++ (codes " " ++ (decimal index ++ (codes " " ++ (decimal session ++ (codes " " ++ (hex_text kid ++ codes "\n")))))))))
 entry_words n (Deliver place verdict) = codes " deliver " ++ (decimal place ++ (codes " " ++ (verdict_name verdict ++ codes "\n")))
 entry_words n (GiveUp place) = codes " giveup " ++ (decimal place ++ codes "\n")
@@ -62,10 +65,16 @@ abbrev pub status_name : Status → List ℕ
 status_name Usable = codes "usable"
 status_name Expired = codes "expired"
 status_name Released = codes "released"
+status_name UsableInFuture = codes "usable-in-future"
 
 -- a key id and its status
 abbrev pub status_words : List ℕ × Status → List ℕ
 status_words s = codes " " ++ (hex_text s.0 ++ (codes "=" ++ status_name s.1))
+
+-- why a session is closed (Encrypted Media Extensions, MediaKeySessionClosedReason)
+abbrev pub reason_name : Reason → List ℕ
+reason_name ClosedByApplication = codes "closed-by-application"
+reason_name ResourceEvicted = codes "resource-evicted"
 
 -- the names of Web IDL, and of a label that names no session
 abbrev pub error_name : DomError → List ℕ
@@ -97,7 +106,7 @@ event_line (Encrypted init) = codes "  event encrypted " ++ (init_name init.kind
 -- the line of an effect
 abbrev pub effect_line : Effect → List ℕ
 effect_line (Statuses session list) = codes "  statuses " ++ (decimal session ++ (flat_map status_words list ++ codes "\n"))
-effect_line (Closed session) = codes "  closed " ++ (decimal session ++ codes "\n")
+effect_line (Closed session reason) = codes "  closed " ++ (decimal session ++ (codes " " ++ (reason_name reason ++ codes "\n")))
 effect_line (Promise promise how) = codes "  promise " ++ (decimal promise ++ settled_words how)
 effect_line (Fired event) = event_line event
 

@@ -9,6 +9,7 @@ use Rattle.eme_types.specs.declared.call.Effect.TheVariants.{Promise}
 use Rattle.eme_types.specs.declared.entry.Entry.{Entry}
 use Rattle.cdm_world.specs.Tracks.{TrackState, find_track}
 use Rattle.cdm_state.specs.History.{world}
+use Rattle.cdm_state.specs.Later.{waits_later}
 use Rattle.cdm_state.specs.Output.{out}
 use Rattle.cdm_state.specs.Settlements.{effects_in, calls_in}
 
@@ -40,14 +41,15 @@ abbrev pub waits : Option TrackState → Bool
 waits None = false
 waits (Some t) = t.waiting
 
--- a truth in words
-abbrev pub yes_or_no : Bool → List ℕ
-yes_or_no true = codes "yes"
-yes_or_no false = codes "no"
+-- whether a track waits for a key: it does not; it does; it does, and the key is usable later
+abbrev pub waiting_word : Bool → Bool → List ℕ
+waiting_word false later = codes "no"
+waiting_word true false = codes "yes"
+waiting_word true true = codes "later"
 
 -- the line of a track: the samples that are out, their bytes, and whether the track waits for a key
 abbrev pub track_line : List ℕ → List Entry → ℕ → List ℕ
-track_line ids h t = codes "track " ++ (decimal t ++ (codes " samples " ++ (decimal (length (out ids h t)) ++ (codes " bytes " ++ (decimal (sum_by length (out ids h t)) ++ (codes " waiting " ++ (yes_or_no (waits (find_track (world ids h).tracks t)) ++ codes "\n")))))))
+track_line ids h t = codes "track " ++ (decimal t ++ (codes " samples " ++ (decimal (length (out ids h t)) ++ (codes " bytes " ++ (decimal (sum_by length (out ids h t)) ++ (codes " waiting " ++ (waiting_word (waits (find_track (world ids h).tracks t)) (waits_later (world ids h) t) ++ codes "\n")))))))
 
 -- one promise for each call
 abbrev pub summary_head : List ℕ → List Entry → List ℕ

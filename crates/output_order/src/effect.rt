@@ -4,7 +4,7 @@ ghost use Rattle.std.specs.List.{flat_map};
 ghost use Rattle.eme_types.specs.declared.call.Event.TheVariants.{Encrypted};
 ghost use Rattle.output_order.specs.Log.{status_words, settled_words, event_line, effect_line, effect_lines};
 
-use crate::names::{error_name, hex_text, init_name, status_name};
+use crate::names::{error_name, hex_text, init_name, reason_name, status_name};
 use eme_types::{Bytes, Effect, Event, InitData, KeyId, Settled, Status};
 use std::alloc::{AllocError, Global};
 
@@ -95,8 +95,9 @@ fn put_effect(alloc: Global, out: &mut Bytes, effect: &Effect) -> Result<(), All
             out.extend_from_slice(b"\n")?;
             Ok(())
         }
-        Effect::Closed { session } => {
-            let line = format!(in alloc; "  closed {session}\n")?;
+        Effect::Closed { session, reason } => {
+            let reason = reason_name(*reason);
+            let line = format!(in alloc; "  closed {session} {reason}\n")?;
             out.extend_from_slice(line.as_bytes())?;
             Ok(())
         }

@@ -31,6 +31,7 @@ pub fn entry_text(alloc: Global, place: u64, fed: u64, entry: &Entry) -> Result<
             let number = fed + 1;
             format!(in alloc; "{place} feed {line} {number}\n")
         }
+        Entry::Evict { line, label: _ } => format!(in alloc; "{place} evict {line}\n"),
         Entry::Claim {
             worker,
             track,

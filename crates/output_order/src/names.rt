@@ -1,8 +1,8 @@
 // The names of the texts.
 ghost use Rattle.std.specs.Prelude.{◌≡◌, IfOk, string_bytes};
-ghost use Rattle.output_order.specs.Log.{hex_text, verdict_name, status_name, error_name, init_name};
+ghost use Rattle.output_order.specs.Log.{hex_text, verdict_name, status_name, reason_name, error_name, init_name};
 
-use eme_types::{DomError, InitKind, Status, Verdict};
+use eme_types::{DomError, InitKind, Reason, Status, Verdict};
 use std::alloc::{AllocError, Global};
 
 /// Lower-case hexadecimal; a dash for no bytes.
@@ -32,6 +32,17 @@ pub fn status_name(status: Status) -> &'static str
         Status::Usable => "usable",
         Status::Expired => "expired",
         Status::Released => "released",
+        Status::UsableInFuture => "usable-in-future",
+    }
+}
+
+/// MediaKeySessionClosedReason.
+pub fn reason_name(reason: Reason) -> &'static str
+    ensures { result.now ≡ reason_name reason }
+{
+    match reason {
+        Reason::ClosedByApplication => "closed-by-application",
+        Reason::ResourceEvicted => "resource-evicted",
     }
 }
 

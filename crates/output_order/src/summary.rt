@@ -3,7 +3,8 @@ ghost use Rattle.std.specs.Prelude.{◌≡◌, ◌+◌, ◌≤◌, IfOk, string_
 ghost use Rattle.cdm_state.specs.Settlements.{is_call, calls_in};
 ghost use Rattle.cdm_world.specs.Tracks.{find_track};
 ghost use Rattle.cdm_state.specs.History.{world};
-ghost use Rattle.output_order.specs.Summary.{is_rejected, resolves, rejects, times_resolved, times_rejected, waits, yes_or_no, track_line, summary_head, summary_of};
+ghost use Rattle.cdm_state.specs.Later.{waits_later};
+ghost use Rattle.output_order.specs.Summary.{is_rejected, resolves, rejects, times_resolved, times_rejected, waits, waiting_word, track_line, summary_head, summary_of};
 
 use crate::log::effects_at;
 use crate::track::{Sizes, sizes_out};
@@ -105,9 +106,16 @@ fn count_promises(cdm: &Cdm) -> Result<Promises, AllocError>
 }
 
 fn waiting_name(cdm: &Cdm, track: u32) -> &'static str
-    ensures { result.now ≡ yes_or_no (waits (find_track (world cdm.now.tracks cdm.now.history).tracks track)) }
+    ensures { result.now ≡ waiting_word (waits (find_track (world cdm.now.tracks cdm.now.history).tracks track)) (waits_later (world cdm.now.tracks cdm.now.history) track) }
 {
-    if cdm.waiting(track) { "yes" } else { "no" }
+    if !cdm.waiting(track) {
+        return "no";
+    }
+    if cdm.waits_later(track) {
+        "later"
+    } else {
+        "yes"
+    }
 }
 
 fn track_text(alloc: Global, cdm: &Cdm, track: u32) -> Result<String, AllocError>

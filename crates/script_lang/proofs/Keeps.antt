@@ -11,7 +11,7 @@ use Rattle.std.proofs.lemmas.List.Folds.{list_all-append}
 use Rattle.std.proofs.lemmas.List.Sums.{fold-append}
 use Rattle.std.proofs.lemmas.Slice.Eq.{bytes_eq-Decides}
 use Rattle.script_lang.specs.declared.verb.Verb.{Verb}
-use Rattle.script_lang.specs.declared.verb.Verb.TheVariants.{Access, Create, Request, Update, Close, Remove, Certificate, Feed, Clock, Settle}
+use Rattle.script_lang.specs.declared.verb.Verb.TheVariants.{Access, Create, Request, Update, Close, Remove, Certificate, Feed, Clock, Evict, Settle}
 use Rattle.script_lang.specs.declared.script.Line.{Line}
 use Rattle.script_lang.specs.declared.fault.ScriptKind.{ScriptKind}
 use Rattle.text_words.specs.Lines.{lines_of}
@@ -93,6 +93,7 @@ action_fits Remove lane last first second text le on_0 e = (le, refl)
 action_fits Certificate lane last first second text le on_0 e = (le, refl)
 action_fits Feed lane last first second text le on_0 e = (not-false (lane == 0) on_0, refl)
 action_fits Clock lane last first second text le on_0 e = (not-false (lane == 0) on_0, moment_passes last text e)
+action_fits Evict lane last first second text le on_0 e = (not-false (lane == 0) on_0, refl)
 action_fits Settle lane last first second text le on_0 e = (not-false (lane == 0) on_0, refl)
 
 abbrev fits : Line → Bool

@@ -4,7 +4,7 @@ use Rattle.std.proofs.lemmas.List.{append-nil}
 use Rattle.std.proofs.lemmas.List.Concat.{flat_map-append}
 use Rattle.std.proofs.lemmas.List.Sums.{fold-append}
 use Rattle.script_lang.specs.declared.verb.Verb.{Verb}
-use Rattle.script_lang.specs.declared.verb.Verb.TheVariants.{Access, Create, Request, Update, Close, Remove, Certificate, Feed, Clock, Settle}
+use Rattle.script_lang.specs.declared.verb.Verb.TheVariants.{Access, Create, Request, Update, Close, Remove, Certificate, Feed, Clock, Evict, Settle}
 use Rattle.script_lang.specs.declared.script.Line.{Line}
 use Rattle.script_lang.specs.declared.told.Told.{Told}
 use Rattle.script_lang.specs.Verbs.{is_create}
@@ -22,6 +22,7 @@ label_of Remove labels first second last = sym (append-nil labels)
 label_of Certificate labels first second last = sym (append-nil labels)
 label_of Feed labels first second last = sym (append-nil labels)
 label_of Clock labels first second last = sym (append-nil labels)
+label_of Evict labels first second last = sym (append-nil labels)
 label_of Settle labels first second last = sym (append-nil labels)
 
 created_more : (lines : List Line) (line : Line) → created (lines ++ line ∷ []) ≡ created lines ++ created_by line.action

@@ -3,9 +3,9 @@ use Rattle.std.specs.Prelude.{◌≡◌, ℕ, ◌+◌, if◌then◌else◌, List
 use Rattle.std.specs.Option.{option_or}
 use Rattle.eme_types.specs.declared.call.AppCall.TheVariants.{Access, Create, Request, Update, Close, Remove, Certificate}
 use Rattle.script_lang.specs.declared.verb.Verb.{Verb}
-use Rattle.script_lang.specs.declared.verb.Verb.TheVariants.{Access as AccessVerb, Create as CreateVerb, Request as RequestVerb, Update as UpdateVerb, Close as CloseVerb, Remove as RemoveVerb, Certificate as CertificateVerb, Feed as FeedVerb, Clock as ClockVerb, Settle as SettleVerb}
+use Rattle.script_lang.specs.declared.verb.Verb.TheVariants.{Access as AccessVerb, Create as CreateVerb, Request as RequestVerb, Update as UpdateVerb, Close as CloseVerb, Remove as RemoveVerb, Certificate as CertificateVerb, Feed as FeedVerb, Clock as ClockVerb, Evict as EvictVerb, Settle as SettleVerb}
 use Rattle.script_lang.specs.declared.script.Action.{Action}
-use Rattle.script_lang.specs.declared.script.Action.TheVariants.{Ask, Feed, Clock, Settle}
+use Rattle.script_lang.specs.declared.script.Action.TheVariants.{Ask, Feed, Clock, Evict, Settle}
 use Rattle.script_lang.specs.declared.script.Line.{Line}
 use Rattle.script_lang.specs.declared.fault.ScriptKind.{ScriptKind}
 use Rattle.script_lang.specs.declared.fault.ScriptKind.TheVariants.{Header}
@@ -34,6 +34,7 @@ action_of RemoveVerb first second last = Ask (Remove first)
 action_of CertificateVerb first second last = Ask (Certificate (data_in last))
 action_of FeedVerb first second last = Feed
 action_of ClockVerb first second last = Clock (unwrap_or (moment_of last) 0)
+action_of EvictVerb first second last = Evict first
 action_of SettleVerb first second last = Settle
 
 -- the line of this number and verb
@@ -64,6 +65,7 @@ created_by (Ask (Remove label)) = []
 created_by (Ask (Certificate cert)) = []
 created_by Feed = []
 created_by (Clock moment) = []
+created_by (Evict label) = []
 created_by Settle = []
 
 -- the labels that lines create

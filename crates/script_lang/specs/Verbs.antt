@@ -2,7 +2,7 @@
 use Rattle.std.specs.Prelude.{ℕ, Bool, true, false, if◌then◌else◌, List, codes, Option, Some, None}
 use Rattle.std.specs.Str.{bytes_eq}
 use Rattle.script_lang.specs.declared.verb.Verb.{Verb}
-use Rattle.script_lang.specs.declared.verb.Verb.TheVariants.{Access, Create, Request, Update, Close, Remove, Certificate, Feed, Clock, Settle}
+use Rattle.script_lang.specs.declared.verb.Verb.TheVariants.{Access, Create, Request, Update, Close, Remove, Certificate, Feed, Clock, Evict, Settle}
 
 -- the verb of this name
 abbrev pub verb_of : List ℕ → Option Verb
@@ -16,6 +16,7 @@ verb_of word =
     else if bytes_eq word (codes "certificate") then Some Certificate
     else if bytes_eq word (codes "feed") then Some Feed
     else if bytes_eq word (codes "clock") then Some Clock
+    else if bytes_eq word (codes "evict") then Some Evict
     else if bytes_eq word (codes "settle") then Some Settle
     else None
 
@@ -30,6 +31,7 @@ plain_words Remove = 1
 plain_words Certificate = 0
 plain_words Feed = 0
 plain_words Clock = 0
+plain_words Evict = 1
 plain_words Settle = 0
 
 -- the first of these words is a label
@@ -43,6 +45,7 @@ takes_label Remove = true
 takes_label Certificate = false
 takes_label Feed = false
 takes_label Clock = false
+takes_label Evict = true
 takes_label Settle = false
 
 -- data is last
@@ -56,6 +59,7 @@ takes_data Remove = false
 takes_data Certificate = true
 takes_data Feed = false
 takes_data Clock = false
+takes_data Evict = false
 takes_data Settle = false
 
 -- the verb creates a session
@@ -69,6 +73,7 @@ is_create Remove = false
 is_create Certificate = false
 is_create Feed = false
 is_create Clock = false
+is_create Evict = false
 is_create Settle = false
 
 -- a moment is last
@@ -82,6 +87,7 @@ is_clock Remove = false
 is_clock Certificate = false
 is_clock Feed = false
 is_clock Clock = true
+is_clock Evict = false
 is_clock Settle = false
 
 -- the player's own verbs stand on lane 0 alone
@@ -95,4 +101,5 @@ is_of_lane_0 Remove = false
 is_of_lane_0 Certificate = false
 is_of_lane_0 Feed = true
 is_of_lane_0 Clock = true
+is_of_lane_0 Evict = true
 is_of_lane_0 Settle = true

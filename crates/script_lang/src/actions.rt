@@ -52,6 +52,7 @@ pub fn action_of(alloc: Global, moment: u64, parts: &Parts<'_>) -> Result<Action
         }
         Verb::Feed => Ok(Action::Feed),
         Verb::Clock => Ok(Action::Clock(clock_of(moment, parts.last)?)),
+        Verb::Evict => Ok(Action::Evict(Bytes::from_slice(alloc, parts.first)?)),
         Verb::Settle => Ok(Action::Settle),
     }
 }

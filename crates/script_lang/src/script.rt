@@ -1,7 +1,7 @@
 // Scripts.
 ghost use Rattle.std.specs.Prelude.{◌≡◌, length};
 
-use eme_types::{AppCall, Items};
+use eme_types::{AppCall, Bytes, Items};
 use std::marker::Model;
 
 /// What a line does.
@@ -13,6 +13,8 @@ pub enum Action {
     Feed,
     /// Sets the moment, in milliseconds.
     Clock(u64),
+    /// The CDM ends the session with the label.
+    Evict(Bytes),
     /// Takes steps until nothing is left to do.
     Settle,
 }
@@ -25,8 +27,8 @@ pub struct Line {
     pub action: Action,
 }
 
-/// A script: its lines, in order. Line numbers rise, lanes are 0 to 7, only lane 0 feeds, sets the clock and settles, and
-/// no moment is below an earlier one or above 2^53.
+/// A script: its lines, in order. Line numbers rise, lanes are 0 to 7, only lane 0 feeds, sets the clock, evicts and
+/// settles, and no moment is below an earlier one or above 2^53.
 #[derive(Drop)]
 pub struct Script {
     lines: Items<Line>,

@@ -21,8 +21,12 @@ fn each_kind_has_its_line(rt: HostRuntime) -> Result<(), Fail> {
         (b"EMES 1\n9 feed".as_slice(), 2, ScriptKind::Lane),
         (b"EMES 1\n0 jump".as_slice(), 2, ScriptKind::Verb),
         (b"EMES 1\n1 feed".as_slice(), 2, ScriptKind::LaneKind),
+        (b"EMES 1\n1 evict a".as_slice(), 2, ScriptKind::LaneKind),
         (b"EMES 1\n0 feed x".as_slice(), 2, ScriptKind::Words),
+        (b"EMES 1\n0 evict".as_slice(), 2, ScriptKind::Words),
+        (b"EMES 1\n0 evict a b".as_slice(), 2, ScriptKind::Words),
         (b"EMES 1\n\n#\n0 close A\n".as_slice(), 4, ScriptKind::Label),
+        (b"EMES 1\n0 evict A\n".as_slice(), 2, ScriptKind::Label),
         (
             b"EMES 1\n0 create a temporary\n0 create a temporary\n".as_slice(),
             3,
@@ -59,6 +63,8 @@ fn kinds_are_tried_in_order(rt: HostRuntime) -> Result<(), Fail> {
         (b"EMES 1\n feed".as_slice(), ScriptKind::Lane),
         (b"EMES 1\n1  A".as_slice(), ScriptKind::Verb),
         (b"EMES 1\n1 clock".as_slice(), ScriptKind::LaneKind),
+        (b"EMES 1\n7 evict A b".as_slice(), ScriptKind::LaneKind),
+        (b"EMES 1\n0 evict A ".as_slice(), ScriptKind::Words),
         (b"EMES 1\n0 update A  text:".as_slice(), ScriptKind::Words),
         (b"EMES 1\n0 update A hex:0 0".as_slice(), ScriptKind::Words),
         (b"EMES 1\n0 clock 01 ".as_slice(), ScriptKind::Words),
@@ -83,6 +89,7 @@ fn scripts_have_their_lines(rt: HostRuntime) -> Result<(), Fail> {
             2,
         ),
         (b"EMES 1\n7 access - hex:\n".as_slice(), 1),
+        (b"EMES 1\n0 evict a\n0 evict a".as_slice(), 2),
         (
             b"EMES 1\n0 create abcdefghijklmnopqrstuvwxyz_01234 -\n7 remove a\n".as_slice(),
             2,
@@ -98,10 +105,11 @@ fn scripts_have_their_lines(rt: HostRuntime) -> Result<(), Fail> {
 
 #[test]
 fn lines_mean_their_actions(rt: HostRuntime) -> Result<(), Fail> {
-    let text = b"EMES 1\n# data\n3 request a_1 keyids text: {} \n0 access - hex:0aFF\n";
+    let text =
+        b"EMES 1\n# data\n3 request a_1 keyids text: {} \n0 access - hex:0aFF\n0 evict b_2\n";
     let script = read_script(rt.alloc(), text)?;
-    let [first, second] = script.as_slice() else {
-        assert!(rt; false, "two lines");
+    let [first, second, third] = script.as_slice() else {
+        assert!(rt; false, "three lines");
         return Ok(());
     };
     assert_eq!(rt; first.number, 3);
@@ -120,6 +128,11 @@ fn lines_mean_their_actions(rt: HostRuntime) -> Result<(), Fail> {
             assert_eq!(rt; list.as_slice(), [10, 255].as_slice());
         }
         _ => assert!(rt; false, "an access"),
+    }
+    assert_eq!(rt; third.lane, 0);
+    match &third.action {
+        Action::Evict(label) => assert_eq!(rt; label.as_slice(), b"b_2".as_slice()),
+        _ => assert!(rt; false, "an eviction"),
     }
     Ok(())
 }

@@ -71,6 +71,6 @@ fn moment_after(moment: u64, action: &Action) -> u64
 {
     match action {
         Action::Clock(next) => *next,
-        Action::Ask(_) | Action::Feed | Action::Settle => moment,
+        Action::Ask(_) | Action::Feed | Action::Evict(_) | Action::Settle => moment,
     }
 }

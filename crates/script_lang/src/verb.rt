@@ -14,6 +14,7 @@ pub enum Verb {
     Certificate,
     Feed,
     Clock,
+    Evict,
     Settle,
 }
 
@@ -40,6 +41,8 @@ impl Verb {
             Some(Verb::Feed)
         } else if word == b"clock".as_slice() {
             Some(Verb::Clock)
+        } else if word == b"evict".as_slice() {
+            Some(Verb::Evict)
         } else if word == b"settle".as_slice() {
             Some(Verb::Settle)
         } else {
@@ -53,7 +56,7 @@ impl Verb {
     {
         match self {
             Verb::Create | Verb::Request => 2,
-            Verb::Access | Verb::Update | Verb::Close | Verb::Remove => 1,
+            Verb::Access | Verb::Update | Verb::Close | Verb::Remove | Verb::Evict => 1,
             Verb::Certificate | Verb::Feed | Verb::Clock | Verb::Settle => 0,
         }
     }
@@ -63,7 +66,12 @@ impl Verb {
         ensures { result ≡ takes_label self }
     {
         match self {
-            Verb::Create | Verb::Request | Verb::Update | Verb::Close | Verb::Remove => true,
+            Verb::Create
+            | Verb::Request
+            | Verb::Update
+            | Verb::Close
+            | Verb::Remove
+            | Verb::Evict => true,
             Verb::Access | Verb::Certificate | Verb::Feed | Verb::Clock | Verb::Settle => false,
         }
     }
@@ -96,6 +104,6 @@ impl Verb {
     pub fn is_of_lane_0(self) -> bool
         ensures { result ≡ is_of_lane_0 self }
     {
-        matches!(self, Verb::Feed | Verb::Clock | Verb::Settle)
+        matches!(self, Verb::Feed | Verb::Clock | Verb::Evict | Verb::Settle)
     }
 }

@@ -10,6 +10,6 @@ pub returns : goal.returns
 returns c =
     let x = c.args in
     let s = x.session.now in
-    let was : c.open_and-was.result ≡ (not s.closed && is_usable (held_status s.expiration x.moment)) = search rules in
+    let was : c.open_and-was.result ≡ (not s.closed && is_usable (held_status s.start s.expiration x.moment)) = search rules in
     let is : c.open_and-is.result ≡ (not s.closed && x.usable) = c.open_and-is.ensures in
-    ended_same x.number _ _ _ _ _ (λ kid. open_if s.closed (is_usable (held_status s.expiration x.moment)) (key_in s.keys.keys kid)) (λ kid. open_if s.closed x.usable (key_in x.table.now.keys kid)) (rw (was, is) at c.in_ok-list.ensures)
+    ended_same x.number _ _ _ _ _ (λ kid. open_if s.closed (is_usable (held_status s.start s.expiration x.moment)) (key_in s.keys.keys kid)) (λ kid. open_if s.closed x.usable (key_in x.table.now.keys kid)) (rw (was, is) at c.in_ok-list.ensures)

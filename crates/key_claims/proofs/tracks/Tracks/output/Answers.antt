@@ -1,14 +1,12 @@
-use Rattle.std.proofs.Common.{◌≡◌, ◌∙◌, Option, Some, None, map, ap, sym, subst}
+use Rattle.std.proofs.Common.{◌≡◌, Option, Some, None, sym, subst}
 use Rattle.std.specs.Prelude.{MatchOption, slice_get}
 use Rattle.key_claims.specs.TracksState.{FedTrack}
-use Rattle.key_claims.specs.TrackValue.{TrackValue, fed_track}
-use Rattle.key_claims.specs.Changes.{find_fed, outputs_of}
-use Rattle.key_claims.proofs.Lists.{found_here, unwithin}
+use Rattle.key_claims.specs.Changes.{outputs_of}
+use Rattle.key_claims.proofs.Lists.{found_at}
 use Rattle.key_claims.proofs.tracks.Tracks.output.Goals as goal
 
 pub returns-in-Some : goal.returns-in-Some
 returns-in-Some c =
-    let vs = c.self.inside.tracks.items in
     let stands = rw c.deref.ensures.value at c.in-Some.ensures in
-    let found : find_fed (map fed_track vs) c.args.track ≡ Some c.index.result.now.track = found_here vs c.in-Some.i c.args.track c.index.result.now (unwithin vs c.in-Some.i stands.within) stands ∙ ap (λ (v : TrackValue). Some v.track) (sym c.index.ensures) in
+    let found = found_at c.self.inside.tracks.items c.in-Some.i c.args.track c.index.result.now stands c.index.ensures in
     rw (← c.self.view_is) (subst (λ (o : Option FedTrack). MatchOption c.output.result (slice_get (outputs_of o) c.args.index ≡ None) (λ x. slice_get (outputs_of o) c.args.index ≡ Some x.now)) (sym found) c.output.ensures)

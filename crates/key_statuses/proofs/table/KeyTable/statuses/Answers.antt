@@ -8,4 +8,4 @@ returns-clause-sorted c = sorted_result c.statuses_of.result c.self.inside.known
 pub returns-clause-members : goal.returns-clause-members
 returns-clause-members c =
     rw (← c.self.view_is)
-    (members_result c.statuses_of.result c.self.inside.known.items (held_status c.args.expiration c.args.moment) (rw (c.as_slice.ensures.value, c.held_status-held.ensures) at c.statuses_of.ensures))
+    (members_result c.statuses_of.result c.self.inside.known.items (held_status c.args.from c.args.expiration c.args.moment) (rw (c.as_slice.ensures.value, c.held_status-held.ensures) at c.statuses_of.ensures))

@@ -1,0 +1,9 @@
+use Rattle.std.proofs.Common.{arith}
+use Rattle.aes128.specs.declared.word_tables.TheConstants.{TABLE_16}
+use Rattle.aes128.specs.Words.{table_word}
+use Rattle.aes128.proofs.Below.{row_of}
+use Rattle.aes128.proofs.Tables.{table_16}
+use Rattle.aes128.proofs.word_tables.row_16.Goals as goal
+
+pub returns : goal.returns
+returns c = row_of TABLE_16 (table_word 16) 256 c.args.x table_16 (omega arith)
