@@ -1,5 +1,5 @@
 -- Words by their bytes.
-use Rattle.std.proofs.Common.{◌≡◌, ℕ, ◌+◌, ◌-◌, ◌*◌, ◌/◌, ◌%◌, ◌^◌, ◌<◌, List, [], ◌∷◌, map, get_or, bit_xor, bit_or, refl, arith, ◌∙◌, sym, ap}
+use Rattle.std.proofs.Common.{◌≡◌, ℕ, ◌+◌, ◌-◌, ◌*◌, ◌/◌, ◌%◌, ◌^◌, ◌<◌, List, [], ◌∷◌, map, get_or, bit_xor, refl, arith, ◌∙◌, sym, ap}
 use Rattle.std.proofs.lemmas.Nat.{xor_shr, xor_mod}
 use Rattle.std.specs.Int.{w32, rotate_right, from_be_bytes}
 use Rattle.std.specs.Int.Bits.{or_shifted_r, xor_comm, xor_assoc, or_self}
@@ -7,7 +7,6 @@ use Rattle.std.proofs.Math.ListN.{get_or-map}
 use Rattle.aes128.specs.Bytes.{AreBytes}
 use Rattle.aes128.specs.Field.{times}
 use Rattle.aes128.specs.Sbox.{sub_byte, inv_sub_byte}
-use Rattle.aes128.specs.State.{state_of}
 use Rattle.aes128.specs.Cipher.{combined}
 use Rattle.aes128.specs.Words.{word, row_byte, state_of_words, mixed_word, inv_mixed_word, table_word, inverse_table_word}
 use Rattle.aes128.proofs.Linear.{times-lt, times_1}

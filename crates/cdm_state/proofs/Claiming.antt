@@ -5,7 +5,7 @@ use Rattle.std.proofs.lemmas.List.{length-take, take_all}
 use Rattle.std.proofs.lemmas.List.Elements.{Contains-append_right}
 use Rattle.std.proofs.lemmas.Bool.Decides.{eqb_tells}
 use Rattle.eme_types.specs.declared.entry.Entry.{Entry}
-use Rattle.eme_types.specs.declared.entry.Entry.TheVariants.{Call, Job, Task, Tick, Feed, Claim, Deliver, GiveUp, Publish, PassClear, WaitForKey, Settle}
+use Rattle.eme_types.specs.declared.entry.Entry.TheVariants.{Call, Job, Task, Tick, Feed, Evict, Claim, Deliver, GiveUp, Publish, PassClear, WaitForKey, Settle}
 use Rattle.eme_types.specs.declared.entry.Verdict.TheVariants.{Taken, Stale}
 use Rattle.eme_types.specs.declared.kid.KeyBytes.{KeyBytes}
 use Rattle.key_claims.specs.TracksState.{ClaimState}
@@ -59,6 +59,8 @@ place_before ids h (Tick line moment) p allowed (inl x) = absurd x
 place_before ids h (Tick line moment) p allowed (inr x) = absurd x
 place_before ids h (Feed line fragment) p allowed (inl x) = absurd x
 place_before ids h (Feed line fragment) p allowed (inr x) = absurd x
+place_before ids h (Evict line label) p allowed (inl x) = absurd x
+place_before ids h (Evict line label) p allowed (inr x) = absurd x
 place_before ids h (Claim worker track index session kid) p allowed (inl x) = absurd x
 place_before ids h (Claim worker track index session kid) p allowed (inr x) = absurd x
 place_before ids h (Deliver place verdict) p allowed (inl x) = absurd x

@@ -1,5 +1,5 @@
 -- What the calls answer, read off what the core keeps.
-use Rattle.std.proofs.Common.{Err, suc, ◌≡◌, ℕ, ◌+◌, ◌≤◌, ◌<◌, Bool, true, false, IsTrue, List, [], ◌∷◌, length, get_or, Option, Some, None, refl, ap, sym, subst, ◌∙◌, arith, true≢false, ◌↔◌}
+use Rattle.std.proofs.Common.{Err, suc, ◌≡◌, ℕ, ◌+◌, ◌≤◌, ◌<◌, Bool, true, false, ◌&&◌, IsTrue, List, [], ◌∷◌, length, get_or, Option, Some, None, refl, ap, sym, subst, ◌∙◌, arith, true≢false, ◌↔◌}
 use Rattle.std.specs.Prelude.{IsErrOf, if◌then◌else◌, slice_get}
 use Rattle.eme_types.specs.declared.kid.KeyBytes.{KeyBytes}
 use Rattle.eme_types.specs.declared.sample.EncSample.{EncSample}
@@ -19,7 +19,8 @@ use Rattle.cdm_state.specs.Settlements.{effects_from, effects_in, calls_in}
 use Rattle.cdm_state.specs.Claims.{LegalKept}
 use Rattle.cdm_state.specs.Kept.{world_of}
 use Rattle.cdm_state.specs.History.{world, MayClaim, MayPassClear, MayWait}
-use Rattle.key_claims.specs.Changes.{find_fed, waits}
+use Rattle.key_claims.specs.Changes.{find_fed, head_of, waits}
+use Rattle.cdm_state.specs.Later.{sample_later, track_later, waits_later}
 use Rattle.cdm_state.proofs.TrackLists.{no_track, seen, found_state}
 use Rattle.cdm_state.proofs.TrackIds.{FoundAt, found_at}
 use Rattle.cdm_state.proofs.May.{not_claimed}
@@ -46,6 +47,15 @@ pub waits_is : (ids : List ℕ) (h : List Entry) (did : List (List Effect)) (m :
 waits_is ids h did m ts claims id kept =
     let same : find_track (world ids h).tracks id ≡ seen (find_fed ts id) = sym (ap (λ (w : World). find_track w.tracks id) kept.state) ∙ found_state ts id in
     rw same (waits_seen (find_fed ts id))
+
+later_seen : (m : Machine) (o : Option FedTrack) → track_later m (seen o) ≡ (waits o && sample_later m (head_of o))
+later_seen m None = refl
+later_seen m (Some t) = refl
+
+-- whether a track waits for a key that is usable later
+pub later_is : (ids : List ℕ) (h : List Entry) (did : List (List Effect)) (m : Machine) (ts : List FedTrack) (claims : List ClaimState) (id : ℕ) → LegalKept ids h did (world_of m ts) claims → waits_later (world ids h) id ≡ (waits (find_fed ts id) && sample_later m (head_of (find_fed ts id)))
+later_is ids h did m ts claims id kept =
+    ap (λ (w : World). waits_later w id) (sym kept.state) ∙ (ap (λ (o : Option TrackState). track_later m o) (found_state ts id) ∙ later_seen m (find_fed ts id))
 
 -- the track that an allowed entry names is in the list
 pub found_in : (ids : List ℕ) (h : List Entry) (did : List (List Effect)) (m : Machine) (ts : List FedTrack) (claims : List ClaimState) (id : ℕ) (s : TrackState) → LegalKept ids h did (world_of m ts) claims → find_track (world ids h).tracks id ≡ Some s → FoundAt ts id s

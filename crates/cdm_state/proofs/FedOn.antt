@@ -15,7 +15,7 @@ use Rattle.eme_types.specs.declared.media.TrackPart.{TrackPart}
 use Rattle.eme_types.specs.declared.media.Fragment.{Fragment}
 use Rattle.eme_types.specs.declared.call.Effect.{Effect}
 use Rattle.eme_types.specs.declared.entry.Entry.{Entry}
-use Rattle.eme_types.specs.declared.entry.Entry.TheVariants.{Call, Job, Task, Tick, Feed, Claim, Deliver, GiveUp, Publish, PassClear, WaitForKey, Settle}
+use Rattle.eme_types.specs.declared.entry.Entry.TheVariants.{Call, Job, Task, Tick, Feed, Evict, Claim, Deliver, GiveUp, Publish, PassClear, WaitForKey, Settle}
 use Rattle.eme_types.specs.declared.entry.Verdict.TheVariants.{Taken}
 use Rattle.key_claims.specs.declared.claim.Claim.{Claim as Held}
 use Rattle.key_claims.specs.TracksState.{FedTrack, ClaimState, track_of}
@@ -79,6 +79,7 @@ fed_stays w Job t i x at = at
 fed_stays w Task t i x at = task_fed (resumes w.machine.tasks) (pick w.machine) w.tracks t i x at
 fed_stays w (Tick line moment) t i x at = at
 fed_stays w (Feed line fragment) t i x at = feed_fed w fragment t i x at
+fed_stays w (Evict line label) t i x at = at
 fed_stays w (Claim worker track index session kid) t i x at = at
 fed_stays w (Deliver place verdict) t i x at = at
 fed_stays w (GiveUp place) t i x at = at
@@ -176,6 +177,7 @@ entry_formed ids h Task may formed = task_formed (resumes (world ids h).machine.
 entry_formed ids h (Tick line moment) may formed = formed
 entry_formed ids h (Feed line None) may formed = formed
 entry_formed ids h (Feed line (Some f)) may formed = parts_formed (world ids h).tracks f.parts may.formed formed
+entry_formed ids h (Evict line label) may formed = formed
 entry_formed ids h (Claim worker track index session kid) may formed = formed
 entry_formed ids h (Deliver place verdict) may formed = formed
 entry_formed ids h (GiveUp place) may formed = formed

@@ -8,7 +8,7 @@ use Rattle.std.proofs.lemmas.List.Elements.{Contains-append_left}
 use Rattle.std.proofs.lemmas.Slice.Eq.{bytes_eq-Decides}
 use Rattle.std.proofs.lemmas.Bool.Decides.{eqb_tells}
 use Rattle.eme_types.specs.declared.entry.Entry.{Entry}
-use Rattle.eme_types.specs.declared.entry.Entry.TheVariants.{Call, Job, Task, Tick, Feed, Claim, Deliver, GiveUp, Publish, PassClear, WaitForKey, Settle}
+use Rattle.eme_types.specs.declared.entry.Entry.TheVariants.{Call, Job, Task, Tick, Feed, Evict, Claim, Deliver, GiveUp, Publish, PassClear, WaitForKey, Settle}
 use Rattle.eme_types.specs.declared.entry.Verdict.TheVariants.{Taken}
 use Rattle.eme_types.specs.declared.kid.KeyBytes.{KeyBytes}
 use Rattle.key_claims.specs.TracksState.{ClaimState}
@@ -69,6 +69,7 @@ key_alone w Job k l a b = absurd a
 key_alone w Task k l a b = absurd a
 key_alone w (Tick line moment) k l a b = absurd a
 key_alone w (Feed line fragment) k l a b = absurd a
+key_alone w (Evict line label) k l a b = absurd a
 key_alone w (Claim worker track index session kid) k l a b = some_alone k l (sym a ∙ b)
 key_alone w (Deliver place verdict) k l a b = absurd a
 key_alone w (GiveUp place) k l a b = absurd a
@@ -84,6 +85,7 @@ is_claim w Job key a plain = a
 is_claim w Task key a plain = a
 is_claim w (Tick line moment) key a plain = a
 is_claim w (Feed line fragment) key a plain = a
+is_claim w (Evict line label) key a plain = a
 is_claim w (Claim worker track index session kid) key a plain = plain worker track index session kid refl
 is_claim w (Deliver place verdict) key a plain = a
 is_claim w (GiveUp place) key a plain = a

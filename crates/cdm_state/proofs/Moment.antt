@@ -8,7 +8,7 @@ use Rattle.eme_types.specs.declared.call.DomError.{DomError}
 use Rattle.eme_types.specs.declared.call.AppCall.{AppCall}
 use Rattle.eme_types.specs.declared.call.AppCall.TheVariants.{Access, Create, Request, Update, Close, Remove, Certificate}
 use Rattle.eme_types.specs.declared.entry.Entry.{Entry}
-use Rattle.eme_types.specs.declared.entry.Entry.TheVariants.{Call, Job, Task, Tick, Feed, Claim, Deliver, GiveUp, Publish, PassClear, WaitForKey, Settle}
+use Rattle.eme_types.specs.declared.entry.Entry.TheVariants.{Call, Job, Task, Tick, Feed, Evict, Claim, Deliver, GiveUp, Publish, PassClear, WaitForKey, Settle}
 use Rattle.clearkey_json.specs.declared.key_set.KeySet.{KeySet}
 use Rattle.clearkey_json.specs.declared.key_set.KeySetFault.{KeySetFault}
 use Rattle.clearkey_json.specs.KeySet.{key_set}
@@ -17,11 +17,12 @@ use Rattle.init_data.specs.InitData.{kids_of}
 use Rattle.task_queue.specs.declared.work.Job.{Job as QueuedJob}
 use Rattle.task_queue.specs.declared.work.Job.TheVariants.{Request as RequestJob, Update as UpdateJob, Close as CloseJob, Remove as RemoveJob}
 use Rattle.task_queue.specs.declared.work.Task.{Task as Queued}
-use Rattle.task_queue.specs.declared.work.Task.TheVariants.{Reject, RequestDone, UpdateDone, CloseDone, RemoveDone, Report, Fire, Resume}
+use Rattle.task_queue.specs.declared.work.Task.TheVariants.{Reject, RequestDone, UpdateDone, CloseDone, RemoveDone, Evicted, Report, Fire, Resume}
 use Rattle.key_sessions.specs.Machine.{Machine, SessionState, session_at}
 use Rattle.key_sessions.specs.Steps.{Done, with_session}
 use Rattle.key_sessions.specs.Calls.{after_call, create_call, find_label, request_on, request_started, request_kind, start_request, update_on, update_or, or_empty, close_on, remove_on, remove_or, state_fault, is_ending}
-use Rattle.key_sessions.specs.Jobs.{take_job, run_job, request_job, update_job}
+use Rattle.key_sessions.specs.Jobs.{take_job, run_job, work_job, job_session, is_evicted, request_job, update_job}
+use Rattle.key_sessions.specs.Evict.{evict_on}
 use Rattle.key_sessions.specs.Tasks.{take_task, run_task, is_closed}
 use Rattle.key_sessions.specs.World.{World, empty_world}
 use Rattle.cdm_state.specs.After.{after_entry}
@@ -88,11 +89,14 @@ update_job_keeps : (n p : ℕ) (r : Result KeySet KeySetFault) (m : Machine) →
 update_job_keeps n p (Ok set) m = either_machine _ _ _ m.moment refl refl
 update_job_keeps n p (Err fault) m = refl
 
+work_keeps : (job : QueuedJob) (m : Machine) → (work_job job m).moment ≡ m.moment
+work_keeps (RequestJob n kind init p) m = request_job_keeps n p (kids_of kind init) m
+work_keeps (UpdateJob n response p) m = update_job_keeps n p (key_set response) m
+work_keeps (CloseJob n p) m = refl
+work_keeps (RemoveJob n p) m = refl
+
 run_job_keeps : (job : QueuedJob) (m : Machine) → (run_job job m).moment ≡ m.moment
-run_job_keeps (RequestJob n kind init p) m = request_job_keeps n p (kids_of kind init) m
-run_job_keeps (UpdateJob n response p) m = update_job_keeps n p (key_set response) m
-run_job_keeps (CloseJob n p) m = refl
-run_job_keeps (RemoveJob n p) m = refl
+run_job_keeps job m = either_machine (is_evicted (session_at m.sessions (job_session job))) _ _ m.moment refl (work_keeps job m)
 
 job_keeps : (jobs : List QueuedJob) (m : Machine) → (take_job jobs m).moment ≡ m.moment
 job_keeps [] m = refl
@@ -108,9 +112,14 @@ run_task_keeps (RequestDone n kids p) m = refl
 run_task_keeps (UpdateDone n changed p) m = update_done_keeps n p changed m
 run_task_keeps (CloseDone n p) m = refl
 run_task_keeps (RemoveDone n p) m = refl
+run_task_keeps (Evicted n) m = refl
 run_task_keeps (Report n) m = either (is_closed (session_at m.sessions n)) _ _ m.moment refl refl
 run_task_keeps (Fire event) m = refl
 run_task_keeps Resume m = refl
+
+evict_keeps : (m : Machine) (o : Option (ℕ × SessionState)) → (evict_on m o).moment ≡ m.moment
+evict_keeps m None = refl
+evict_keeps m (Some (n, s)) = either_machine (is_ending s) _ _ m.moment refl refl
 
 task_keeps : (tasks : List Queued) (m : Machine) → moment_in (take_task tasks m) ≡ m.moment
 task_keeps [] m = refl
@@ -123,6 +132,7 @@ entry_ticks w Task = task_keeps w.machine.tasks w.machine
 entry_ticks w (Tick line moment) = refl
 entry_ticks w (Feed line None) = refl
 entry_ticks w (Feed line (Some f)) = refl
+entry_ticks w (Evict line label) = evict_keeps w.machine (find_label w.machine label)
 entry_ticks w (Claim worker track index session kid) = refl
 entry_ticks w (Deliver place verdict) = refl
 entry_ticks w (GiveUp place) = refl

@@ -7,7 +7,7 @@ use Rattle.eme_types.specs.declared.sample.EncSample.{EncSample}
 use Rattle.eme_types.specs.declared.media.TrackPart.{TrackPart}
 use Rattle.eme_types.specs.declared.media.Fragment.{Fragment}
 use Rattle.eme_types.specs.declared.entry.Entry.{Entry}
-use Rattle.eme_types.specs.declared.entry.Entry.TheVariants.{Call, Job, Task, Tick, Feed, Claim, Deliver, GiveUp, Publish, PassClear, WaitForKey, Settle}
+use Rattle.eme_types.specs.declared.entry.Entry.TheVariants.{Call, Job, Task, Tick, Feed, Evict, Claim, Deliver, GiveUp, Publish, PassClear, WaitForKey, Settle}
 use Rattle.cdm_world.specs.Tracks.{Picks, TrackState, empty_track, head, has_pick, find_track, change_track, feed_part, feed_parts, add_samples, one_more, set_waiting, resumed, resumed_track}
 use Rattle.key_sessions.specs.Keys.{held_key, pick}
 use Rattle.key_sessions.specs.World.{World, empty_world, resumes}
@@ -114,6 +114,7 @@ adds_entry w Job id = adds_none w.tracks id
 adds_entry w Task id = adds_looked (resumes w.machine.tasks) (pick w.machine) w.tracks id
 adds_entry w (Tick line moment) id = adds_none w.tracks id
 adds_entry w (Feed line fragment) id = adds_feed w fragment id
+adds_entry w (Evict line label) id = adds_none w.tracks id
 adds_entry w (Claim worker track index session kid) id = adds_none w.tracks id
 adds_entry w (Deliver place verdict) id = adds_none w.tracks id
 adds_entry w (GiveUp place) id = adds_none w.tracks id
@@ -207,6 +208,7 @@ counts_more ids h Job legal may was = counts_stay ids h Job (same_counts (world 
 counts_more ids h Task legal may was = counts_stay ids h Task (looked_counts (resumes (world ids h).machine.tasks) (pick (world ids h).machine) (world ids h).tracks) (λ id. refl) was
 counts_more ids h (Tick line moment) legal may was = counts_stay ids h (Tick line moment) (same_counts (world ids h).tracks) (λ id. refl) was
 counts_more ids h (Feed line fragment) legal may was = counts_stay ids h (Feed line fragment) (fed_counts (world ids h) fragment) (λ id. refl) was
+counts_more ids h (Evict line label) legal may was = counts_stay ids h (Evict line label) (same_counts (world ids h).tracks) (λ id. refl) was
 counts_more ids h (Claim worker track index session kid) legal may was = counts_stay ids h (Claim worker track index session kid) (same_counts (world ids h).tracks) (λ id. refl) was
 counts_more ids h (Deliver place verdict) legal may was = counts_stay ids h (Deliver place verdict) (same_counts (world ids h).tracks) (λ id. refl) was
 counts_more ids h (GiveUp place) legal may was = counts_stay ids h (GiveUp place) (same_counts (world ids h).tracks) (λ id. refl) was

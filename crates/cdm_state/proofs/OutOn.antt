@@ -8,7 +8,7 @@ use Rattle.eme_types.specs.declared.kid.KeyBytes.{KeyBytes}
 use Rattle.eme_types.specs.declared.sample.EncSample.{EncSample}
 use Rattle.eme_types.specs.declared.call.Effect.{Effect}
 use Rattle.eme_types.specs.declared.entry.Entry.{Entry}
-use Rattle.eme_types.specs.declared.entry.Entry.TheVariants.{Call, Job, Task, Tick, Feed, Claim, Deliver, GiveUp, Publish, PassClear, WaitForKey, Settle}
+use Rattle.eme_types.specs.declared.entry.Entry.TheVariants.{Call, Job, Task, Tick, Feed, Evict, Claim, Deliver, GiveUp, Publish, PassClear, WaitForKey, Settle}
 use Rattle.eme_types.specs.declared.entry.Verdict.TheVariants.{Taken}
 use Rattle.sample_crypt.specs.Decryption.{decryption}
 use Rattle.key_claims.specs.declared.claim.Claim.{Claim as Held}
@@ -240,6 +240,7 @@ nothing_put ids h t Job none may = refl
 nothing_put ids h t Task none may = refl
 nothing_put ids h t (Tick line moment) none may = refl
 nothing_put ids h t (Feed line fragment) none may = refl
+nothing_put ids h t (Evict line label) none may = refl
 nothing_put ids h t (Claim worker track index session kid) none may = refl
 nothing_put ids h t (Deliver place verdict) none may = refl
 nothing_put ids h t (GiveUp place) none may = refl

@@ -3,7 +3,7 @@ use Rattle.std.proofs.Common.{◌≡◌, ℕ, ◌≤◌, inl, inr, List, [], ◌
 use Rattle.std.specs.Prelude.{slice_get}
 use Rattle.std.proofs.lemmas.List.Sums.{fold-append}
 use Rattle.eme_types.specs.declared.entry.Entry.{Entry}
-use Rattle.eme_types.specs.declared.entry.Entry.TheVariants.{Call, Job, Task, Tick, Feed, Claim, Deliver, GiveUp, Publish, PassClear, WaitForKey, Settle}
+use Rattle.eme_types.specs.declared.entry.Entry.TheVariants.{Call, Job, Task, Tick, Feed, Evict, Claim, Deliver, GiveUp, Publish, PassClear, WaitForKey, Settle}
 use Rattle.cdm_state.specs.Moment.{tick_to, last_moment}
 use Rattle.cdm_state.specs.Law.{MomentIsPastEachTick}
 use Rattle.cdm_state.specs.History.{world, Allowed}
@@ -17,6 +17,7 @@ tick_grows ids h Job may = omega arith
 tick_grows ids h Task may = omega arith
 tick_grows ids h (Tick line moment) may = omega (arith, may, moment_is ids h)
 tick_grows ids h (Feed line fragment) may = omega arith
+tick_grows ids h (Evict line label) may = omega arith
 tick_grows ids h (Claim worker track index session kid) may = omega arith
 tick_grows ids h (Deliver place verdict) may = omega arith
 tick_grows ids h (GiveUp place) may = omega arith

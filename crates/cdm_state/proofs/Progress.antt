@@ -7,7 +7,7 @@ use Rattle.eme_types.specs.declared.kid.KeyBytes.{KeyBytes}
 use Rattle.eme_types.specs.declared.sample.EncSample.{EncSample}
 use Rattle.eme_types.specs.declared.sample.Protect.{Protect}
 use Rattle.eme_types.specs.declared.entry.Entry.{Entry}
-use Rattle.eme_types.specs.declared.entry.Entry.TheVariants.{Call, Job, Task, Tick, Feed, Claim, Deliver, GiveUp, Publish, PassClear, WaitForKey, Settle}
+use Rattle.eme_types.specs.declared.entry.Entry.TheVariants.{Call, Job, Task, Tick, Feed, Evict, Claim, Deliver, GiveUp, Publish, PassClear, WaitForKey, Settle}
 use Rattle.eme_types.specs.declared.entry.Verdict.{Verdict}
 use Rattle.eme_types.specs.declared.entry.Verdict.TheVariants.{Taken, Stale}
 use Rattle.key_claims.specs.TracksState.{ClaimState}
@@ -68,6 +68,7 @@ keeps_more ids h Job legal may k = keeps_left ids h Job (λ cs. record { plain =
 keeps_more ids h Task legal may k = keeps_left ids h Task (λ cs. record { plain = λ w t i n k x. cc; ends = λ p x. x; spends = λ s there x. x }) k
 keeps_more ids h (Tick line moment) legal may k = keeps_left ids h (Tick line moment) (λ cs. record { plain = λ w t i n k x. cc; ends = λ p x. x; spends = λ s there x. x }) k
 keeps_more ids h (Feed line fragment) legal may k = keeps_left ids h (Feed line fragment) (λ cs. record { plain = λ w t i n k x. cc; ends = λ p x. x; spends = λ s there x. x }) k
+keeps_more ids h (Evict line label) legal may k = keeps_left ids h (Evict line label) (λ cs. record { plain = λ w t i n k x. cc; ends = λ p x. x; spends = λ s there x. x }) k
 keeps_more ids h (Claim worker track index session kid) legal may k = keeps_claimed ids h worker track index session kid legal may k
 keeps_more ids h (Deliver place verdict) legal may k = keeps_delivered ids h place verdict may k
 keeps_more ids h (GiveUp place) legal may k = keeps_ended ids h (GiveUp place) place (record { plain = λ w t i n k x. cc; this = refl; ends = λ p x. x; spends = λ p x. x }) refl k

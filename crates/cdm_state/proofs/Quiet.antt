@@ -5,7 +5,7 @@ use Rattle.std.specs.List.{fold}
 use Rattle.std.proofs.lemmas.List.Sums.{fold-append}
 use Rattle.eme_types.specs.declared.sample.EncSample.{EncSample}
 use Rattle.eme_types.specs.declared.entry.Entry.{Entry}
-use Rattle.eme_types.specs.declared.entry.Entry.TheVariants.{Call, Job, Task, Tick, Feed, Claim, Deliver, GiveUp, Publish, PassClear, WaitForKey, Settle}
+use Rattle.eme_types.specs.declared.entry.Entry.TheVariants.{Call, Job, Task, Tick, Feed, Evict, Claim, Deliver, GiveUp, Publish, PassClear, WaitForKey, Settle}
 use Rattle.key_sessions.specs.Keys.{pick}
 use Rattle.key_sessions.specs.World.{World, empty_world}
 use Rattle.cdm_world.specs.Tracks.{Picks, TrackState, head, find_track, Unpicked, HeadAtRest, TrackAtRest}
@@ -78,6 +78,7 @@ spent w Job place s = absurd s
 spent w Task place s = absurd s
 spent w (Tick line moment) place s = absurd s
 spent w (Feed line fragment) place s = absurd s
+spent w (Evict line label) place s = absurd s
 spent w (Claim worker track index session kid) place s = absurd s
 spent w (Deliver p verdict) place s = refl
 spent w (GiveUp p) place s = refl

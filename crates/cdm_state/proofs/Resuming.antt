@@ -7,10 +7,10 @@ use Rattle.eme_types.specs.declared.sample.Protect.{Protect}
 use Rattle.eme_types.specs.declared.media.TrackPart.{TrackPart}
 use Rattle.eme_types.specs.declared.media.Fragment.{Fragment}
 use Rattle.eme_types.specs.declared.entry.Entry.{Entry}
-use Rattle.eme_types.specs.declared.entry.Entry.TheVariants.{Call, Job, Task, Tick, Feed, Claim, Deliver, GiveUp, Publish, PassClear, WaitForKey, Settle}
+use Rattle.eme_types.specs.declared.entry.Entry.TheVariants.{Call, Job, Task, Tick, Feed, Evict, Claim, Deliver, GiveUp, Publish, PassClear, WaitForKey, Settle}
 use Rattle.eme_types.specs.declared.call.Event.TheVariants.{WaitingForKey}
 use Rattle.task_queue.specs.declared.work.Task.{Task as Queued}
-use Rattle.task_queue.specs.declared.work.Task.TheVariants.{Reject, RequestDone, UpdateDone, CloseDone, RemoveDone, Report, Fire, Resume}
+use Rattle.task_queue.specs.declared.work.Task.TheVariants.{Reject, RequestDone, UpdateDone, CloseDone, RemoveDone, Evicted, Report, Fire, Resume}
 use Rattle.key_sessions.specs.Machine.{Machine}
 use Rattle.key_sessions.specs.Keys.{pick}
 use Rattle.key_sessions.specs.Tasks.{take_task}
@@ -22,7 +22,7 @@ use Rattle.cdm_state.proofs.Places.{either_place}
 use Rattle.cdm_state.proofs.Histories.{world_more, legal_induction}
 use Rattle.cdm_state.proofs.Live.{live_less, at_within}
 use Rattle.cdm_state.specs.Waiting.{resume_queued, WaitsOnlyForKeys}
-use Rattle.cdm_state.proofs.Usable.{is_held, held_some, Carries, carries_same, carries_call, carries_job, carries_tick, carries_more, carries_task}
+use Rattle.cdm_state.proofs.Usable.{is_held, held_some, Carries, carries_same, carries_call, carries_job, carries_tick, carries_evict, carries_more, carries_task}
 use Rattle.cdm_state.proofs.Plain.{some_alone}
 use Rattle.cdm_world.proofs.ItemsAt.{get_left}
 
@@ -60,7 +60,7 @@ stays_asleep ids h e id t u a same up new c = record {
   queued = λ session held.
       let p : is_held (after_entry (world ids h) e).machine.moment (after_entry (world ids h) e).machine.sessions session a.protect.kid ≡ true = subst (λ (v : World). is_held v.machine.moment v.machine.sessions session a.protect.kid ≡ true) (world_more ids h e) held in
       let r : resume_queued session (after_entry (world ids h) e).machine.tasks ≡ true = elim (c.held session a.protect.kid p) [
-        | inl old ↦ c.queued session (a.queued session old)
+        | inl old ↦ c.queued session a.protect.kid p (a.queued session old)
         | inr now ↦ now
       ] in
       subst (λ (v : World). resume_queued session v.machine.tasks ≡ true) (sym (world_more ids h e)) r;
@@ -221,6 +221,7 @@ asleep_task ids h (RequestDone n kids p ∷ ts) id u front some all found waits 
 asleep_task ids h (UpdateDone n changed p ∷ ts) id u front some all found waits = asleep_ran ids h (UpdateDone n changed p) ts id u front (λ e. cc) all found waits
 asleep_task ids h (CloseDone n p ∷ ts) id u front some all found waits = asleep_ran ids h (CloseDone n p) ts id u front (λ e. cc) all found waits
 asleep_task ids h (RemoveDone n p ∷ ts) id u front some all found waits = asleep_ran ids h (RemoveDone n p) ts id u front (λ e. cc) all found waits
+asleep_task ids h (Evicted n ∷ ts) id u front some all found waits = asleep_ran ids h (Evicted n) ts id u front (λ e. cc) all found waits
 asleep_task ids h (Report n ∷ ts) id u front some all found waits = asleep_ran ids h (Report n) ts id u front (λ e. cc) all found waits
 asleep_task ids h (Fire event ∷ ts) id u front some all found waits = asleep_ran ids h (Fire event) ts id u front (λ e. cc) all found waits
 asleep_task ids h (Resume ∷ ts) id u front some all found waits = asleep_resumed ids h ts id u front all found waits
@@ -242,8 +243,9 @@ asleep_after : (ids : List ℕ) (h : List Entry) (e : Entry) (id : ℕ) (u : Tra
 asleep_after ids h (Call lane line call) id u may all found waits = stays_asleep ids h (Call lane line call) id u u (all id u found waits) refl (λ s f. f) (λ x. x) (carries_call (world ids h).machine call)
 asleep_after ids h Job id u may all found waits = stays_asleep ids h Job id u u (all id u found waits) refl (λ s f. f) (λ x. x) (carries_job (world ids h).machine)
 asleep_after ids h Task id u may all found waits = asleep_task ids h (world ids h).machine.tasks id u refl may all found waits
-asleep_after ids h (Tick line moment) id u may all found waits = stays_asleep ids h (Tick line moment) id u u (all id u found waits) refl (λ s f. f) (λ x. x) (carries_tick (world ids h).machine moment may)
+asleep_after ids h (Tick line moment) id u may all found waits = stays_asleep ids h (Tick line moment) id u u (all id u found waits) refl (λ s f. f) (λ x. x) (carries_tick (world ids h).machine moment)
 asleep_after ids h (Feed line f) id u may all found waits = asleep_fed ids h line f id u all found waits
+asleep_after ids h (Evict line label) id u may all found waits = stays_asleep ids h (Evict line label) id u u (all id u found waits) refl (λ s f. f) (λ x. x) (carries_evict (world ids h).machine label)
 asleep_after ids h (Claim worker track index session kid) id u may all found waits = stays_asleep ids h (Claim worker track index session kid) id u u (all id u found waits) refl (λ s f. f) (λ x. no_claim ids h id track may.state u found waits may.known may.awake x.0) (carries_same (world ids h).machine)
 asleep_after ids h (Deliver place verdict) id u may all found waits = stays_asleep ids h (Deliver place verdict) id u u (all id u found waits) refl (λ s f. f) (λ x. x) (carries_same (world ids h).machine)
 asleep_after ids h (GiveUp place) id u may all found waits = stays_asleep ids h (GiveUp place) id u u (all id u found waits) refl (λ s f. f) (λ x. x) (carries_same (world ids h).machine)

@@ -7,13 +7,14 @@ use Rattle.eme_types.specs.declared.call.Effect.{Effect}
 use Rattle.eme_types.specs.declared.media.Fragment.{Fragment}
 use Rattle.eme_types.specs.declared.media.InitData.{InitData}
 use Rattle.eme_types.specs.declared.entry.Entry.{Entry}
-use Rattle.eme_types.specs.declared.entry.Entry.TheVariants.{Call, Job, Task, Tick, Feed, Claim, Deliver, GiveUp, Publish, PassClear, WaitForKey, Settle}
+use Rattle.eme_types.specs.declared.entry.Entry.TheVariants.{Call, Job, Task, Tick, Feed, Evict, Claim, Deliver, GiveUp, Publish, PassClear, WaitForKey, Settle}
 use Rattle.key_sessions.specs.Machine.{Machine}
 use Rattle.task_queue.specs.declared.work.Task.TheVariants.{Fire}
 use Rattle.eme_types.specs.declared.call.Event.TheVariants.{WaitingForKey}
 use Rattle.key_sessions.specs.Steps.{Done, unmoved}
 use Rattle.key_sessions.specs.Calls.{after_call}
 use Rattle.key_sessions.specs.Jobs.{after_job}
+use Rattle.key_sessions.specs.Evict.{after_evict}
 use Rattle.key_sessions.specs.Tasks.{after_task, after_tick}
 use Rattle.key_sessions.specs.World.{World, empty_world}
 use Rattle.cdm_state.specs.After.{step, after_entry, effects_of, feed_step, wait_step, fire_encrypted}
@@ -24,7 +25,7 @@ use Rattle.cdm_state.specs.Settlements.{settling, settlements, settlements_from,
 use Rattle.cdm_state.specs.Law.{SettlesAtMostOnce, SettlesEachOnce, OwesEachOnce}
 use Rattle.key_sessions.specs.Owed.{settles, one_if, jobs_owe, tasks_owe, pending, IsOwed, times_settled, Asked, Steady}
 use Rattle.key_sessions.proofs.Owed.{one_same, one_other, one_within, tasks_more}
-use Rattle.key_sessions.proofs.OwedSteps.{asked_call, steady_job, steady_front, steady_tick, steady_same}
+use Rattle.key_sessions.proofs.OwedSteps.{asked_call, steady_job, steady_front, steady_tick, steady_evict, steady_same}
 use Rattle.cdm_state.proofs.Histories.{world_more, legal_induction}
 
 events_owe : (p : ℕ) (inits : List InitData) → tasks_owe p (map fire_encrypted inits) ≡ 0
@@ -111,6 +112,7 @@ known_more ids h Job legal allowed k = known_steady ids h Job (after_job (world 
 known_more ids h Task legal allowed k = known_steady ids h Task (after_task (world ids h).machine) refl refl refl (steady_front (world ids h).machine k.owed) k
 known_more ids h (Tick line moment) legal allowed k = known_steady ids h (Tick line moment) (after_tick moment (world ids h).machine) refl refl refl (steady_tick (world ids h).machine moment k.owed) k
 known_more ids h (Feed line f) legal allowed k = known_steady ids h (Feed line f) (unmoved (feed_step (world ids h) f).machine) refl refl refl (fed_steady (world ids h) f k.owed) k
+known_more ids h (Evict line label) legal allowed k = known_steady ids h (Evict line label) (after_evict label (world ids h).machine) refl refl refl (steady_evict (world ids h).machine label k.owed) k
 known_more ids h (Claim worker track index session kid) legal allowed k = known_steady ids h (Claim worker track index session kid) (unmoved (world ids h).machine) refl refl refl (steady_same (world ids h).machine k.owed) k
 known_more ids h (Deliver place verdict) legal allowed k = known_steady ids h (Deliver place verdict) (unmoved (world ids h).machine) refl refl refl (steady_same (world ids h).machine k.owed) k
 known_more ids h (GiveUp place) legal allowed k = known_steady ids h (GiveUp place) (unmoved (world ids h).machine) refl refl refl (steady_same (world ids h).machine k.owed) k

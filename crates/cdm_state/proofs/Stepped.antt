@@ -3,10 +3,10 @@ use Rattle.std.proofs.Common.{◌≡◌, ◌∙◌, ℕ, ◌+◌, ◌≤◌, Boo
 use Rattle.std.specs.Prelude.{filter, if◌then◌else◌}
 use Rattle.eme_types.specs.declared.call.AppCall.{AppCall}
 use Rattle.eme_types.specs.declared.entry.Entry.{Entry}
-use Rattle.eme_types.specs.declared.entry.Entry.TheVariants.{Call, Job, Task, Tick}
+use Rattle.eme_types.specs.declared.entry.Entry.TheVariants.{Call, Job, Task, Tick, Evict}
 use Rattle.cdm_world.specs.Tracks.{TrackState, resumed}
 use Rattle.task_queue.specs.declared.work.Task.{Task as Queued}
-use Rattle.task_queue.specs.declared.work.Task.TheVariants.{Reject, RequestDone, UpdateDone, CloseDone, RemoveDone, Report, Fire, Resume}
+use Rattle.task_queue.specs.declared.work.Task.TheVariants.{Reject, RequestDone, UpdateDone, CloseDone, RemoveDone, Evicted, Report, Fire, Resume}
 use Rattle.key_sessions.specs.Machine.{Machine}
 use Rattle.cdm_world.specs.Lost.{AreLost}
 use Rattle.key_sessions.specs.Keys.{pick, held_key}
@@ -50,6 +50,9 @@ task_quiet = record { plain = λ w t i n k x. cc; ends = λ p x. x; spends = λ 
 
 pub tick_quiet : (line moment : ℕ) → IsQuiet (Tick line moment)
 tick_quiet line moment = record { plain = λ w t i n k x. cc; ends = λ p x. x; spends = λ p x. x; feeds = refl; shows = λ ids h t. refl }
+
+pub evict_quiet : (line : ℕ) (label : List ℕ) → IsQuiet (Evict line label)
+evict_quiet line label = record { plain = λ w t i n k x. cc; ends = λ p x. x; spends = λ p x. x; feeds = refl; shows = λ ids h t. refl }
 
 -- a step of the sessions: what it did, the sessions and the tracks after it, and the room and the entries of the chronicle before and after its entry
 pub record Steps (ids : List ℕ) (p : Parts) (e : Entry) (d : Done) (s : SessionsState) (us : List FedTrack) (c next : ChronicleState) : Type 0 where
@@ -99,6 +102,7 @@ resume_keys (RequestDone n kids p ∷ tasks) m e = absurd cc
 resume_keys (UpdateDone n changed p ∷ tasks) m e = absurd cc
 resume_keys (CloseDone n p ∷ tasks) m e = absurd cc
 resume_keys (RemoveDone n p ∷ tasks) m e = absurd cc
+resume_keys (Evicted n ∷ tasks) m e = absurd cc
 resume_keys (Report n ∷ tasks) m e = absurd cc
 resume_keys (Fire event ∷ tasks) m e = absurd cc
 resume_keys (Resume ∷ tasks) m e = (refl, refl)

@@ -6,7 +6,7 @@ use Rattle.std.proofs.lemmas.Bool.Decides.{eqb_tells}
 use Rattle.eme_types.specs.declared.media.TrackPart.{TrackPart}
 use Rattle.eme_types.specs.declared.media.Fragment.{Fragment}
 use Rattle.eme_types.specs.declared.entry.Entry.{Entry}
-use Rattle.eme_types.specs.declared.entry.Entry.TheVariants.{Call, Job, Task, Tick, Feed, Claim, Deliver, GiveUp, Publish, PassClear, WaitForKey, Settle}
+use Rattle.eme_types.specs.declared.entry.Entry.TheVariants.{Call, Job, Task, Tick, Feed, Evict, Claim, Deliver, GiveUp, Publish, PassClear, WaitForKey, Settle}
 use Rattle.eme_types.specs.Fed.{is_among, are_distinct}
 use Rattle.key_claims.specs.TracksState.{FedTrack, track_of}
 use Rattle.cdm_world.specs.Tracks.{Picks, TrackState, empty_track, head, has_pick, find_track, change_track, feed_part, feed_parts, add_samples, one_more, set_waiting, resumed}
@@ -69,6 +69,7 @@ entry_ids w Job = refl
 entry_ids w Task = task_ids (resumes w.machine.tasks) (pick w.machine) w.tracks
 entry_ids w (Tick line moment) = refl
 entry_ids w (Feed line fragment) = feed_ids w fragment
+entry_ids w (Evict line label) = refl
 entry_ids w (Claim worker track index session kid) = refl
 entry_ids w (Deliver place verdict) = refl
 entry_ids w (GiveUp place) = refl

@@ -1,13 +1,12 @@
--- Which sessions come to hold a usable key: only an update gives one, and then it queues what looks at the tracks that wait.
-use Rattle.std.proofs.Common.{zero, suc, ◌≡◌, ℕ, ◌+◌, ◌<◌, ◌≤◌, ◌⊎◌, inl, inr, Bool, true, false, ◌&&◌, ◌||◌, not, List, [], ◌∷◌, ◌++◌, map, length, Option, Some, None, is_some, Result, Ok, Err, refl, ap, sym, subst, ◌∙◌, arith}
+-- Which sessions come to hold a usable key: an update gives one, and so does the time; either queues what looks at the tracks that wait.
+use Rattle.std.proofs.Common.{zero, suc, ◌≡◌, ℕ, ◌+◌, ◌<◌, ◌≤◌, ◌⊎◌, inl, inr, Bool, true, false, ◌&&◌, ◌||◌, not, List, [], ◌∷◌, ◌++◌, map, length, Option, Some, None, is_some, Result, Ok, Err, refl, ap, sym, subst, ◌∙◌, arith, true≢false}
 use Rattle.std.specs.Prelude.{slice_get, if◌then◌else◌, nat_lt, codes, ◌==◌}
 use Rattle.std.specs.Str.{bytes_eq}
-use Rattle.std.proofs.lemmas.Bool.{ltb-true}
-use Rattle.std.proofs.lemmas.Bool.Decides.{Decides-ltb, Decides-eqb}
+use Rattle.std.proofs.lemmas.Bool.Decides.{Decides-eqb}
 use Rattle.std.proofs.lemmas.Slice.Eq.{bytes_eq-Decides}
 use Rattle.eme_types.specs.declared.kid.KeyBytes.{KeyBytes}
 use Rattle.eme_types.specs.declared.kid.Status.{Status}
-use Rattle.eme_types.specs.declared.kid.Status.TheVariants.{Usable, Expired, Released}
+use Rattle.eme_types.specs.declared.kid.Status.TheVariants.{Usable, Expired, Released, UsableInFuture}
 use Rattle.eme_types.specs.declared.call.Settled.{Settled}
 use Rattle.eme_types.specs.declared.call.Settled.TheVariants.{Resolved, ResolvedFalse, Rejected}
 use Rattle.eme_types.specs.declared.call.DomError.{DomError}
@@ -15,6 +14,8 @@ use Rattle.eme_types.specs.declared.call.DomError.TheVariants.{InvalidState, Typ
 use Rattle.eme_types.specs.declared.call.AppCall.{AppCall}
 use Rattle.eme_types.specs.declared.call.AppCall.TheVariants.{Access, Create, Request, Update, Close, Remove, Certificate}
 use Rattle.eme_types.specs.declared.call.Event.TheVariants.{KeyStatuses, Message}
+use Rattle.eme_types.specs.declared.call.Reason.{Reason}
+use Rattle.eme_types.specs.declared.call.Reason.TheVariants.{ClosedByApplication, ResourceEvicted}
 use Rattle.eme_types.specs.declared.media.InitKind.{InitKind}
 use Rattle.clearkey_json.specs.declared.key_set.KeySet.{KeySet}
 use Rattle.clearkey_json.specs.declared.key_set.KeySetFault.{KeySetFault}
@@ -26,18 +27,20 @@ use Rattle.key_statuses.specs.declared.table.KnownKey.{KnownKey}
 use Rattle.task_queue.specs.declared.work.Job.{Job}
 use Rattle.task_queue.specs.declared.work.Job.TheVariants.{Request as RequestJob, Update as UpdateJob, Close as CloseJob, Remove as RemoveJob}
 use Rattle.task_queue.specs.declared.work.Task.{Task}
-use Rattle.task_queue.specs.declared.work.Task.TheVariants.{Reject, RequestDone, UpdateDone, CloseDone, RemoveDone, Report, Fire, Resume}
+use Rattle.task_queue.specs.declared.work.Task.TheVariants.{Reject, RequestDone, UpdateDone, CloseDone, RemoveDone, Evicted, Report, Fire, Resume}
 use Rattle.key_statuses.specs.Table.{key_in, grant_all, released}
-use Rattle.key_statuses.specs.Statuses.{held_status, is_usable, status_of, comes_before, insert_status, statuses_from, statuses, same_key, same_table, same_status, same_statuses, is_changed}
-use Rattle.key_sessions.specs.Machine.{SessionState, Machine, new_session, session_at, change_at, change_session}
+use Rattle.key_statuses.specs.Statuses.{is_usable, status_of, comes_before, insert_status, statuses_from, statuses, same_key, same_table, same_status, same_statuses, is_changed}
+use Rattle.key_sessions.specs.Machine.{SessionState, Machine, new_session, session_at, status_at, change_at, change_session}
 use Rattle.key_sessions.specs.Keys.{usable_key, key_of, held_in, held_key, or_else, pick_from, pick}
-use Rattle.key_sessions.specs.Steps.{Done, unmoved, with_session, queue_task, statuses_now, update_statuses}
+use Rattle.key_sessions.specs.Steps.{Done, unmoved, with_session, queue_task, statuses_now, update_statuses, closed_for, close_session}
 use Rattle.key_system_access.specs.Configs.{configs_of}
 use Rattle.key_sessions.specs.Calls.{access_result, answer_now, answer_later, create_call, add_session, find_label, is_ending, request_on, request_started, request_kind, start_request, update_on, update_or, or_empty, state_fault, close_on, start_closing, remove_on, remove_or, after_call}
-use Rattle.key_sessions.specs.Jobs.{request_job, request_error, grant_set, with_set, is_changed_by, found, update_job, take_job, cleared, without_keys}
-use Rattle.key_sessions.specs.Tasks.{run_task, is_closed, next_id, made_callable, reports_from, after_tick}
+use Rattle.key_sessions.specs.Jobs.{request_job, request_error, grant_set, with_set, is_changed_by, found, update_job, work_job, job_session, job_promise, is_evicted, take_job, cleared, without_keys}
+use Rattle.key_sessions.specs.Evict.{evict_session, evict_on, after_evict}
+use Rattle.key_sessions.specs.Tasks.{run_task, is_closed, next_id, made_callable, is_reported, reports_from, after_tick}
 use Rattle.cdm_state.specs.Waiting.{will_resume, resume_queued}
 use Rattle.cdm_state.proofs.TrackIds.{and_both}
+use Rattle.cdm_state.proofs.Plain.{some_alone}
 
 or_cases : (a b : Bool) → (a || b) ≡ true → (a ≡ true) ⊎ (b ≡ true)
 or_cases true b e = inl refl
@@ -50,6 +53,10 @@ or_first false b e = absurd cc
 or_second : (a b : Bool) → b ≡ true → (a || b) ≡ true
 or_second true b e = refl
 or_second false b e = e
+
+both_true : (a b : Bool) → a ≡ true → b ≡ true → (a && b) ≡ true
+both_true true b e f = f
+both_true false b e f = e
 
 and_false : (b : Bool) → (b && false) ≡ false
 and_false true = refl
@@ -136,28 +143,6 @@ used_if true u k c v e = absurd cc
 used_if false true k c v e = e
 used_if false false k c v e = absurd cc
 
--- a later moment makes no key usable
-usable_test : (b : Bool) → is_usable (if b then Usable else Expired) ≡ true → b ≡ true
-usable_test true e = refl
-usable_test false e = e
-
-later_held : (o : Option ℕ) (old new : ℕ) → old ≤ new → is_usable (held_status o new) ≡ true → is_usable (held_status o old) ≡ true
-later_held None old new le e = refl
-later_held (Some end) old new le e =
-    let lt : new < end = ltb-true new end (usable_test (nat_lt new end) e) in
-    let before : old < end = omega (arith, le, lt) in
-    let test : nat_lt old end ≡ true = (Decides-ltb old end).1 before in
-    ap (λ (b : Bool). is_usable (if b then Usable else Expired)) test
-
-later_one : (old new : ℕ) (s : SessionState) (kid : List ℕ) → old ≤ new → is_some (usable_key new s kid) ≡ true → is_some (usable_key old s kid) ≡ true
-later_one old new s kid le e =
-    let u = is_used s.closed (is_usable (held_status s.expiration new)) (key_in s.keys kid) e in
-    used_if s.closed (is_usable (held_status s.expiration old)) (key_in s.keys kid) u.0 (later_held s.expiration old new le u.1) u.2
-
-later_held_one : (old new : ℕ) (o : Option SessionState) (kid : List ℕ) → old ≤ new → is_some (key_of new o kid) ≡ true → is_some (key_of old o kid) ≡ true
-later_held_one old new None kid le e = e
-later_held_one old new (Some s) kid le e = later_one old new s kid le e
-
 -- sessions that lose their keys
 none_released : (ks : List KnownKey) (kid : List ℕ) → is_some (key_in (map released ks) kid) ≡ true → ⊥
 none_released [] kid e = absurd cc
@@ -171,6 +156,14 @@ without_one moment s kid e = absurd (none_released s.keys kid (is_used s.closed 
 
 cleared_one : (moment : ℕ) (s : SessionState) (kid : List ℕ) → is_some (usable_key moment (cleared s) kid) ≡ true → is_some (usable_key moment s kid) ≡ true
 cleared_one moment s kid e = (let none : false ≡ true = (is_used s.closed true None e).2 in absurd cc)
+
+evicted_one : (moment : ℕ) (s : SessionState) (kid : List ℕ) → is_some (usable_key moment (evict_session s) kid) ≡ true → is_some (usable_key moment s kid) ≡ true
+evicted_one moment s kid e = (let none : false ≡ true = (is_used s.closed true None e).2 in absurd cc)
+
+-- a closed session, or one that is not there, holds nothing
+closed_holds : (moment : ℕ) (o : Option SessionState) (kid : List ℕ) → is_closed o ≡ true → is_some (key_of moment o kid) ≡ true → ⊥
+closed_holds moment None kid closed e = absurd cc
+closed_holds moment (Some s) kid closed e = true≢false (sym closed ∙ (is_used s.closed (is_usable (status_at moment s)) (key_in s.keys kid) e).0)
 
 -- The statuses of a table are those of its ids in one order, whatever the status of its held keys.
 
@@ -236,6 +229,7 @@ unlike : (held : Status) → is_usable held ≡ false → same_status held Usabl
 unlike Usable off = absurd cc
 unlike Expired off = refl
 unlike Released off = refl
+unlike UsableInFuture off = refl
 
 shown_differ : (held : Status) (list : List KnownKey) → is_usable held ≡ false → has_key list ≡ true → same_statuses (map (show held) list) (map (show Usable) list) ≡ false
 shown_differ held [] off e = absurd cc
@@ -266,6 +260,7 @@ usable_is : (s : Status) → is_usable s ≡ true → s ≡ Usable
 usable_is Usable e = refl
 usable_is Expired e = absurd cc
 usable_is Released e = absurd cc
+usable_is UsableInFuture e = absurd cc
 
 statuses_unlike : (old new : List KnownKey) (before after : Status) (kid : List ℕ) → old ≡ new → is_usable before ≡ false → is_usable after ≡ true → is_some (key_in new kid) ≡ true → same_statuses (statuses old before) (statuses new after) ≡ false
 statuses_unlike old new before after kid same off on some =
@@ -282,7 +277,7 @@ change_seen closed old new before after kid e = go (is_used closed (is_usable af
   go parts true t true v = inl (used_if closed (is_usable before) (key_in old kid) parts.0 v (subst (λ (ks : List KnownKey). is_some (key_in ks kid) ≡ true) (sym (same_table_is old new t)) parts.2))
   go parts true t false v = inr (ap (λ (x : Bool). not (x && same_statuses (statuses old before) (statuses new after))) t ∙ ap not (statuses_unlike old new before after kid (same_table_is old new t) v parts.1 parts.2))
 
--- What looks at the tracks that wait: a `Resume`, and an update that will queue one.
+-- What looks at the tracks that wait: a `Resume`, and an update or a report that will queue one.
 
 pub queued_left : (session : ℕ) (ts us : List Task) → resume_queued session ts ≡ true → resume_queued session (ts ++ us) ≡ true
 queued_left session [] us e = absurd cc
@@ -296,20 +291,20 @@ queued_right : (session : ℕ) (ts us : List Task) → resume_queued session us 
 queued_right session [] us e = e
 queued_right session (t ∷ ts) us e = or_second (will_resume session t) (resume_queued session (ts ++ us)) (queued_right session ts us e)
 
--- from one machine to the next: what is to resume stays queued, and a session with a new usable key has it queued
+-- from one machine to the next: of a session that holds a usable key after it what is to resume stays queued, and where the key is new it is queued
 pub record Carries (before : List Task) (m n : Machine) : Type 0 where
-  pub queued : (session : ℕ) → resume_queued session before ≡ true → resume_queued session n.tasks ≡ true
+  pub queued : (session : ℕ) (kid : List ℕ) → is_held n.moment n.sessions session kid ≡ true → resume_queued session before ≡ true → resume_queued session n.tasks ≡ true
   pub held : (session : ℕ) (kid : List ℕ) → is_held n.moment n.sessions session kid ≡ true → (is_held m.moment m.sessions session kid ≡ true) ⊎ (resume_queued session n.tasks ≡ true)
 
 pub carries_same : (m : Machine) → Carries m.tasks m m
-carries_same m = record { queued = λ session e. e; held = λ session kid e. inl e }
+carries_same m = record { queued = λ session kid now e. e; held = λ session kid e. inl e }
 
 -- a call
 carries_now : (m : Machine) (ss : List SessionState) (how : Settled) → NoMore m.moment m.sessions ss → Carries m.tasks m (answer_now how (record m { sessions = ss })).machine
-carries_now m ss how none = record { queued = λ session e. e; held = λ session kid e. inl (none session kid e) }
+carries_now m ss how none = record { queued = λ session kid now e. e; held = λ session kid e. inl (none session kid e) }
 
 carries_later : (m : Machine) (ss : List SessionState) (job : ℕ → Job) → NoMore m.moment m.sessions ss → Carries m.tasks m (answer_later job (record m { sessions = ss })).machine
-carries_later m ss job none = record { queued = λ session e. e; held = λ session kid e. inl (none session kid e) }
+carries_later m ss job none = record { queued = λ session kid now e. e; held = λ session kid e. inl (none session kid e) }
 
 all_same : (m : Machine) → NoMore m.moment m.sessions m.sessions
 all_same m session kid e = e
@@ -360,7 +355,7 @@ carries_call m (Certificate cert) = carries_now m m.sessions ResolvedFalse (all_
 
 -- a job queues one task
 carries_queue : (m : Machine) (ss : List SessionState) (js : List Job) (task : Task) → NoMore m.moment m.sessions ss → Carries m.tasks m (record m { sessions = ss; jobs = js; tasks = m.tasks ++ task ∷ [] })
-carries_queue m ss js task none = record { queued = λ session e. queued_left session m.tasks (task ∷ []) e; held = λ session kid e. inl (none session kid e) }
+carries_queue m ss js task none = record { queued = λ session kid now e. queued_left session m.tasks (task ∷ []) e; held = λ session kid e. inl (none session kid e) }
 
 carries_request_job : (m : Machine) (n p : ℕ) (js : List Job) (r : Result (List (List ℕ)) InitFault) → Carries m.tasks m (request_job n p r (record m { jobs = js }))
 carries_request_job m n p js (Ok kids) = carries_queue m m.sessions js (RequestDone n kids p) (all_same m)
@@ -370,14 +365,10 @@ carries_request_job m n p js (Err fault) = carries_queue m m.sessions js (Reject
 set_seen : (moment : ℕ) (ss : List SessionState) (n : ℕ) (set : KeySet) (kid : List ℕ) (s : SessionState) → session_at ss n ≡ Some s → is_some (usable_key moment (with_set set s) kid) ≡ true → (is_some (usable_key moment s kid) ≡ true) ⊎ (is_changed_by moment (found (session_at ss n)) (with_set set (found (session_at ss n))) ≡ true)
 set_seen moment ss n set kid s at e =
     let same : found (session_at ss n) ≡ s = ap found at in
-    elim (change_seen s.closed s.keys (with_set set s).keys (held_status s.expiration moment) (held_status (with_set set s).expiration moment) kid e) [
+    elim (change_seen s.closed s.keys (with_set set s).keys (status_at moment s) (status_at moment (with_set set s)) kid e) [
       | inl a ↦ inl a
       | inr c ↦ inr (subst (λ (t : SessionState). is_changed_by moment t (with_set set t) ≡ true) (sym same) c)
     ]
-
-both_true : (a b : Bool) → a ≡ true → b ≡ true → (a && b) ≡ true
-both_true true b e f = f
-both_true false b e f = e
 
 seen_there : {A B C : Type 0} → A ⊎ B → C → A ⊎ (B × C)
 seen_there (inl a) c = inl a
@@ -388,7 +379,7 @@ carries_grant m n p set js = go (nat_lt 256 (length (grant_all (found (session_a
   go : (b : Bool) → Carries m.tasks m (if b then queue_task (Reject p Quota) (record m { jobs = js }) else queue_task (UpdateDone n (is_changed_by m.moment (found (session_at m.sessions n)) (with_set set (found (session_at m.sessions n)))) p) (with_session n (with_set set) (record m { jobs = js })))
   go true = carries_queue m m.sessions js (Reject p Quota) (all_same m)
   go false = record {
-    queued = λ session e. queued_left session m.tasks (UpdateDone n (is_changed_by m.moment (found (session_at m.sessions n)) (with_set set (found (session_at m.sessions n)))) p ∷ []) e;
+    queued = λ session kid now e. queued_left session m.tasks (UpdateDone n (is_changed_by m.moment (found (session_at m.sessions n)) (with_set set (found (session_at m.sessions n)))) p ∷ []) e;
     held = λ session kid e. elim (session_held_after ((is_changed_by m.moment (found (session_at m.sessions n)) (with_set set (found (session_at m.sessions n))) ≡ true) × (n ≡ session)) m.moment (with_set set) kid m.sessions n session (λ s at same u. seen_there (set_seen m.moment m.sessions n set kid s at u) same) e) [
       | inl a ↦ inl a
       | inr c ↦ inr (queued_right session m.tasks (UpdateDone n (is_changed_by m.moment (found (session_at m.sessions n)) (with_set set (found (session_at m.sessions n)))) p ∷ []) (or_first (will_resume session (UpdateDone n (is_changed_by m.moment (found (session_at m.sessions n)) (with_set set (found (session_at m.sessions n)))) p)) false (both_true (is_changed_by m.moment (found (session_at m.sessions n)) (with_set set (found (session_at m.sessions n)))) (n == session) c.0 ((Decides-eqb n session).1 c.1))))
@@ -399,53 +390,112 @@ carries_update_job : (m : Machine) (n p : ℕ) (js : List Job) (r : Result KeySe
 carries_update_job m n p js (Ok set) = carries_grant m n p set js
 carries_update_job m n p js (Err fault) = carries_queue m m.sessions js (Reject p TypeFault) (all_same m)
 
+carries_work : (m : Machine) (job : Job) (js : List Job) → Carries m.tasks m (work_job job (record m { jobs = js }))
+carries_work m (RequestJob n kind init p) js = carries_request_job m n p js (kids_of kind init)
+carries_work m (UpdateJob n response p) js = carries_update_job m n p js (key_set response)
+carries_work m (CloseJob n p) js = carries_queue m (change_session m.sessions n cleared) js (CloseDone n p) (change_no_more m.moment m.sessions n cleared (cleared_one m.moment))
+carries_work m (RemoveJob n p) js = carries_queue m (change_session m.sessions n without_keys) js (RemoveDone n p) (change_no_more m.moment m.sessions n without_keys (without_one m.moment))
+
+choose_machine : (m : Machine) (b : Bool) (x y : Machine) → Carries m.tasks m x → Carries m.tasks m y → Carries m.tasks m (if b then x else y)
+choose_machine m true x y p q = p
+choose_machine m false x y p q = q
+
+-- the job of an evicted session queues a refusal
 carries_take : (m : Machine) (js : List Job) → Carries m.tasks m (take_job js m)
 carries_take m [] = carries_same m
-carries_take m (RequestJob n kind init p ∷ js) = carries_request_job m n p js (kids_of kind init)
-carries_take m (UpdateJob n response p ∷ js) = carries_update_job m n p js (key_set response)
-carries_take m (CloseJob n p ∷ js) = carries_queue m (change_session m.sessions n cleared) js (CloseDone n p) (change_no_more m.moment m.sessions n cleared (cleared_one m.moment))
-carries_take m (RemoveJob n p ∷ js) = carries_queue m (change_session m.sessions n without_keys) js (RemoveDone n p) (change_no_more m.moment m.sessions n without_keys (without_one m.moment))
+carries_take m (job ∷ js) = choose_machine m (is_evicted (session_at m.sessions (job_session job))) _ _ (carries_queue m m.sessions js (Reject (job_promise job) InvalidState) (all_same m)) (carries_work m job js)
 
 pub carries_job : (m : Machine) → Carries m.tasks m (take_job m.jobs m)
 carries_job m = carries_take m m.jobs
 
-pub carries_tick : (m : Machine) (moment : ℕ) → m.moment ≤ moment → Carries m.tasks m (after_tick moment m).machine
-carries_tick m moment le = record { queued = λ session e. queued_left session m.tasks (reports_from m.moment moment 1 m.sessions) e; held = λ session kid e. inl (later_held_one m.moment moment (session_at m.sessions session) kid le e) }
+-- an eviction queues one task
+carries_evict_on : (m : Machine) (o : Option (ℕ × SessionState)) → Carries m.tasks m (evict_on m o)
+carries_evict_on m None = carries_same m
+carries_evict_on m (Some (n, s)) = choose_machine m (is_ending s) _ _ (carries_same m) (carries_queue m (change_session m.sessions n evict_session) m.jobs (Evicted n) (change_no_more m.moment m.sessions n evict_session (evicted_one m.moment)))
+
+pub carries_evict : (m : Machine) (label : List ℕ) → Carries m.tasks m (after_evict label m).machine
+carries_evict m label = carries_evict_on m (find_label m label)
+
+-- a key that the time makes usable is a change of its session's statuses
+time_seen : (old new : ℕ) (s : SessionState) (kid : List ℕ) → is_some (usable_key new s kid) ≡ true → (is_some (usable_key old s kid) ≡ true) ⊎ (is_reported old new s ≡ true)
+time_seen old new s kid e = go (is_used s.closed (is_usable (status_at new s)) (key_in s.keys kid) e) (is_usable (status_at old s)) refl where
+  go : (s.closed ≡ false) × (is_usable (status_at new s) ≡ true) × (is_some (key_in s.keys kid) ≡ true) → (u : Bool) → is_usable (status_at old s) ≡ u → (is_some (usable_key old s kid) ≡ true) ⊎ (is_reported old new s ≡ true)
+  go parts true was = inl (used_if s.closed (is_usable (status_at old s)) (key_in s.keys kid) parts.0 was parts.2)
+  go parts false was = inr (both_true (not s.closed) (not (same_statuses (statuses s.keys (status_at old s)) (statuses s.keys (status_at new s)))) (ap not parts.0) (ap not (statuses_unlike s.keys s.keys (status_at old s) (status_at new s) kid refl was parts.1 parts.2)))
+
+-- a report that is due is queued
+report_due : (old new n i session : ℕ) (ss : List SessionState) (s : SessionState) → session ≡ n + i → slice_get ss i ≡ Some s → is_reported old new s ≡ true → resume_queued session (reports_from old new n ss) ≡ true
+report_due old new n i session [] s is at due = absurd cc
+report_due old new n zero session (t ∷ ss) s is at due =
+    let here : is_reported old new t ≡ true = ap (λ (x : SessionState). is_reported old new x) (some_alone t s at) ∙ due in
+    let same : n ≡ session = omega (arith, is) in
+    rw here (or_first (n == session) (resume_queued session (reports_from old new (n + 1) ss)) ((Decides-eqb n session).1 same))
+report_due old new n (suc i) session (t ∷ ss) s is at due = go (is_reported old new t) (report_due old new (n + 1) i session ss s (omega (arith, is)) at due) where
+  go : (b : Bool) → resume_queued session (reports_from old new (n + 1) ss) ≡ true → resume_queued session (if b then Report n ∷ reports_from old new (n + 1) ss else reports_from old new (n + 1) ss) ≡ true
+  go true rest = or_second (n == session) (resume_queued session (reports_from old new (n + 1) ss)) rest
+  go false rest = rest
+
+time_held : (old new : ℕ) (ss : List SessionState) (session : ℕ) (kid : List ℕ) → is_held new ss session kid ≡ true → (is_held old ss session kid ≡ true) ⊎ (resume_queued session (reports_from old new 1 ss) ≡ true)
+time_held old new ss zero kid e = inl e
+time_held old new ss (suc i) kid e = go (slice_get ss i) refl e where
+  go : (o : Option SessionState) → slice_get ss i ≡ o → is_some (key_of new o kid) ≡ true → (is_some (key_of old o kid) ≡ true) ⊎ (resume_queued (suc i) (reports_from old new 1 ss) ≡ true)
+  go None at u = inl u
+  go (Some s) at u = elim (time_seen old new s kid u) [ inl was ↦ inl was | inr due ↦ inr (report_due old new 1 i (suc i) ss s (omega arith) at due) ]
+
+pub carries_tick : (m : Machine) (moment : ℕ) → Carries m.tasks m (after_tick moment m).machine
+carries_tick m moment = record {
+  queued = λ session kid now e. queued_left session m.tasks (reports_from m.moment moment 1 m.sessions) e;
+  held = λ session kid e. elim (time_held m.moment moment m.sessions session kid e) [ inl was ↦ inl was | inr due ↦ inr (queued_right session m.tasks (reports_from m.moment moment 1 m.sessions) due) ];
+}
 
 -- more tasks
 pub carries_more : (m : Machine) (more : List Task) → Carries m.tasks m (record m { tasks = m.tasks ++ more })
-carries_more m more = record { queued = λ session e. queued_left session m.tasks more e; held = λ session kid e. inl e }
+carries_more m more = record { queued = λ session kid now e. queued_left session m.tasks more e; held = λ session kid e. inl e }
 
 -- a task: it queues nothing, or the event and the `Resume` of 'Update Key Statuses'
 reported_no_more : (m : Machine) (n : ℕ) → NoMore m.moment m.sessions (change_session m.sessions n (statuses_now m.moment))
 reported_no_more m n = change_no_more m.moment m.sessions n (statuses_now m.moment) (λ s kid e. e)
 
-closed_no_more : (moment : ℕ) (ss : List SessionState) (n : ℕ) → NoMore moment ss (change_session ss n (λ s. record s { closed = true }))
-closed_no_more moment ss n = change_no_more moment ss n (λ s. record s { closed = true }) (λ s kid e. absurd cc)
+closed_no_more : (moment : ℕ) (ss : List SessionState) (n : ℕ) (reason : Reason) → NoMore moment ss (change_session ss n (closed_for reason))
+closed_no_more moment ss n reason = change_no_more moment ss n (closed_for reason) (λ s kid e. absurd cc)
 
-two_more : (n session : ℕ) (ts : List Task) → resume_queued session ts ≡ true → resume_queued session ((ts ++ Fire (KeyStatuses n) ∷ []) ++ Resume ∷ []) ≡ true
-two_more n session ts e = queued_left session (ts ++ Fire (KeyStatuses n) ∷ []) (Resume ∷ []) (queued_left session ts (Fire (KeyStatuses n) ∷ []) e)
+resumes_last : (n session : ℕ) (ts : List Task) → resume_queued session ((ts ++ Fire (KeyStatuses n) ∷ []) ++ Resume ∷ []) ≡ true
+resumes_last n session ts = queued_right session (ts ++ Fire (KeyStatuses n) ∷ []) (Resume ∷ []) refl
 
-carries_report : (m : Machine) (n : ℕ) (ts : List Task) (b : Bool) → Carries (Report n ∷ ts) m (if b then unmoved (record m { tasks = ts }) else update_statuses n (unmoved (record m { tasks = ts }))).machine
-carries_report m n ts true = record { queued = λ session e. e; held = λ session kid e. inl e }
-carries_report m n ts false = record { queued = λ session e. two_more n session ts e; held = λ session kid e. inl (reported_no_more m n session kid e) }
+-- the reported statuses of a session become those of its table, and it is closed
+carries_end : (m : Machine) (n : ℕ) (reason : Reason) (before ts : List Task) → Carries before m (close_session n reason (update_statuses n (unmoved (record m { tasks = ts })))).machine
+carries_end m n reason before ts = record {
+  queued = λ session kid now e. resumes_last n session ts;
+  held = λ session kid e. inl (reported_no_more m n session kid (closed_no_more m.moment (change_session m.sessions n (statuses_now m.moment)) n reason session kid e));
+}
+
+-- a report queues a `Resume`, or its session is closed and holds nothing
+carries_report : (m : Machine) (n : ℕ) (ts : List Task) → Carries (Report n ∷ ts) m (run_task (Report n) (record m { tasks = ts })).machine
+carries_report m n ts = go (is_closed (session_at m.sessions n)) refl where
+  go : (b : Bool) → is_closed (session_at m.sessions n) ≡ b → Carries (Report n ∷ ts) m (if b then unmoved (record m { tasks = ts }) else update_statuses n (unmoved (record m { tasks = ts }))).machine
+  go true closed = record {
+    queued = λ session kid now e. elim (or_cases (n == session) (resume_queued session ts) e) [
+      | inl own ↦ absurd (closed_holds m.moment (session_at m.sessions session) kid (subst (λ (k : ℕ). is_closed (session_at m.sessions k) ≡ true) ((Decides-eqb n session).0 own) closed) now)
+      | inr rest ↦ rest
+    ];
+    held = λ session kid e. inl e;
+  }
+  go false closed = record { queued = λ session kid now e. resumes_last n session ts; held = λ session kid e. inl (reported_no_more m n session kid e) }
 
 pub carries_task : (m : Machine) (task : Task) (ts : List Task) → (task ≡ Resume → ⊥) → Carries (task ∷ ts) m (run_task task (record m { tasks = ts })).machine
-carries_task m (Reject p error) ts other = record { queued = λ session e. e; held = λ session kid e. inl e }
+carries_task m (Reject p error) ts other = record { queued = λ session kid now e. e; held = λ session kid e. inl e }
 carries_task m (RequestDone n kids p) ts other = record {
-  queued = λ session e. queued_left session ts (Fire (Message n (next_id m) (request_text kids)) ∷ []) e;
+  queued = λ session kid now e. queued_left session ts (Fire (Message n (next_id m) (request_text kids)) ∷ []) e;
   held = λ session kid e. inl (change_no_more m.moment m.sessions n (made_callable (next_id m)) (λ s k u. u) session kid e);
 }
 carries_task m (UpdateDone n true p) ts other = record {
-  queued = λ session e. queued_right session (ts ++ Fire (KeyStatuses n) ∷ []) (Resume ∷ []) refl;
+  queued = λ session kid now e. resumes_last n session ts;
   held = λ session kid e. inl (reported_no_more m n session kid e);
 }
-carries_task m (UpdateDone n false p) ts other = record { queued = λ session e. e; held = λ session kid e. inl e }
-carries_task m (CloseDone n p) ts other = record {
-  queued = λ session e. two_more n session ts e;
-  held = λ session kid e. inl (reported_no_more m n session kid (closed_no_more m.moment (change_session m.sessions n (statuses_now m.moment)) n session kid e));
-}
-carries_task m (RemoveDone n p) ts other = record { queued = λ session e. two_more n session ts e; held = λ session kid e. inl (reported_no_more m n session kid e) }
-carries_task m (Report n) ts other = carries_report m n ts (is_closed (session_at m.sessions n))
-carries_task m (Fire event) ts other = record { queued = λ session e. e; held = λ session kid e. inl e }
+carries_task m (UpdateDone n false p) ts other = record { queued = λ session kid now e. e; held = λ session kid e. inl e }
+carries_task m (CloseDone n p) ts other = (let c = carries_end m n ClosedByApplication (CloseDone n p ∷ ts) ts in record { queued = c.queued; held = c.held })
+carries_task m (RemoveDone n p) ts other = record { queued = λ session kid now e. resumes_last n session ts; held = λ session kid e. inl (reported_no_more m n session kid e) }
+carries_task m (Evicted n) ts other = carries_end m n ResourceEvicted (Evicted n ∷ ts) ts
+carries_task m (Report n) ts other = carries_report m n ts
+carries_task m (Fire event) ts other = record { queued = λ session kid now e. e; held = λ session kid e. inl e }
 carries_task m Resume ts other = absurd (other refl)

@@ -5,7 +5,7 @@ use Rattle.std.proofs.Math.Nat.{eq-or-lt_of_le}
 use Rattle.eme_types.specs.declared.sample.EncSample.{EncSample}
 use Rattle.eme_types.specs.declared.sample.Protect.{Protect}
 use Rattle.eme_types.specs.declared.entry.Entry.{Entry}
-use Rattle.eme_types.specs.declared.entry.Entry.TheVariants.{Call, Job, Task, Tick, Feed, Claim, Deliver, GiveUp, Publish, PassClear, WaitForKey, Settle}
+use Rattle.eme_types.specs.declared.entry.Entry.TheVariants.{Call, Job, Task, Tick, Feed, Evict, Claim, Deliver, GiveUp, Publish, PassClear, WaitForKey, Settle}
 use Rattle.key_sessions.specs.Keys.{pick}
 use Rattle.key_sessions.specs.World.{World, resumes}
 use Rattle.cdm_world.specs.Tracks.{TrackState, head, has_pick, find_track, one_more, set_waiting, resumed, resumed_track}
@@ -35,6 +35,7 @@ claim_free ids h Job track index place may on live = on
 claim_free ids h Task track index place may on live = on
 claim_free ids h (Tick line moment) track index place may on live = on
 claim_free ids h (Feed line fragment) track index place may on live = on
+claim_free ids h (Evict line label) track index place may on live = on
 claim_free ids h (Claim worker t i session kid) track index place may on live = may.free place (subst (λ (n : ℕ). LiveOn ids h place n i) (sym on.0) (subst (λ (n : ℕ). LiveOn ids h place track n) (sym on.1) live))
 claim_free ids h (Deliver p verdict) track index place may on live = on
 claim_free ids h (GiveUp p) track index place may on live = on
@@ -57,6 +58,7 @@ claim_protected ids h Job place track index legal at on = absurd on
 claim_protected ids h Task place track index legal at on = absurd on
 claim_protected ids h (Tick line moment) place track index legal at on = absurd on
 claim_protected ids h (Feed line fragment) place track index legal at on = absurd on
+claim_protected ids h (Evict line label) place track index legal at on = absurd on
 claim_protected ids h (Claim worker t i session kid) place track index legal at on =
     let may = legal (place - 1) (Claim worker t i session kid) at.1 in
     let fed = fed_since ids h (place - 1) t i may.sample (ap (λ (o : Option TrackState). fed_at o i) may.known ∙ may.fed) in
@@ -108,6 +110,7 @@ old_window ids h Job track index p u legal may w on stays found = w.within track
 old_window ids h Task track index p u legal may w on stays found = task_window (resumes (world ids h).machine.tasks) ids h track index p u w on found
 old_window ids h (Tick line moment) track index p u legal may w on stays found = w.within track index p u on found
 old_window ids h (Feed line fragment) track index p u legal may w on stays found = (let r = feed_found (world ids h) fragment track u found in same_window ids h track index p r.0 u w on r.1 r.2.published)
+old_window ids h (Evict line label) track index p u legal may w on stays found = w.within track index p u on found
 old_window ids h (Claim worker t i session kid) track index p u legal may w on stays found = w.within track index p u on found
 old_window ids h (Deliver place verdict) track index p u legal may w on stays found = w.within track index p u on found
 old_window ids h (GiveUp place) track index p u legal may w on stays found = w.within track index p u on found
@@ -148,6 +151,7 @@ new_window ids h Job track index u may on found = absurd on
 new_window ids h Task track index u may on found = absurd on
 new_window ids h (Tick line moment) track index u may on found = absurd on
 new_window ids h (Feed line fragment) track index u may on found = absurd on
+new_window ids h (Evict line label) track index u may on found = absurd on
 new_window ids h (Claim worker t i session kid) track index u may on found =
     let is : may.state ≡ u = same_track (world ids h).tracks t track may.state u on.0 may.known found in
     let n = ap (λ (s : TrackState). s.published) is in

@@ -5,12 +5,13 @@ use Rattle.eme_types.specs.declared.call.Event.TheVariants.{Encrypted, WaitingFo
 use Rattle.eme_types.specs.declared.media.InitData.{InitData}
 use Rattle.eme_types.specs.declared.media.Fragment.{Fragment}
 use Rattle.eme_types.specs.declared.entry.Entry.{Entry}
-use Rattle.eme_types.specs.declared.entry.Entry.TheVariants.{Call, Job, Task, Tick, Feed, Claim, Deliver, GiveUp, Publish, PassClear, WaitForKey, Settle}
+use Rattle.eme_types.specs.declared.entry.Entry.TheVariants.{Call, Job, Task, Tick, Feed, Evict, Claim, Deliver, GiveUp, Publish, PassClear, WaitForKey, Settle}
 use Rattle.task_queue.specs.declared.work.Task.{Task as Queued}
 use Rattle.task_queue.specs.declared.work.Task.TheVariants.{Fire}
 use Rattle.key_sessions.specs.Steps.{queue_task}
 use Rattle.key_sessions.specs.Calls.{after_call}
 use Rattle.key_sessions.specs.Jobs.{after_job}
+use Rattle.key_sessions.specs.Evict.{after_evict}
 use Rattle.key_sessions.specs.Tasks.{after_tick}
 use Rattle.cdm_world.specs.Tracks.{change_track, one_more, set_waiting, feed_parts}
 use Rattle.key_sessions.specs.World.{World, Stepped, acted, unseen, task_step}
@@ -39,6 +40,7 @@ step w Job = acted w (after_job w.machine)
 step w Task = task_step w
 step w (Tick line moment) = acted w (after_tick moment w.machine)
 step w (Feed line fragment) = unseen (feed_step w fragment)
+step w (Evict line label) = acted w (after_evict label w.machine)
 step w (Claim worker track index session kid) = unseen w
 step w (Deliver place verdict) = unseen w
 step w (GiveUp place) = unseen w

@@ -1,10 +1,11 @@
 -- What each call of the core answers and leaves, refusals and their causes among them.
-use Rattle.std.specs.Prelude.{◌≡◌, ℕ, ◌+◌, ◌↔◌, List, [], OnOk, OnErr, IfOk, IfErr, IsErrOf, Result, Option}
+use Rattle.std.specs.Prelude.{◌≡◌, ℕ, ◌+◌, ◌↔◌, Bool, List, [], OnOk, OnErr, IfOk, IfErr, IsErrOf, Result, Option}
 use Rattle.eme_types.specs.declared.call.AppCall.{AppCall}
 use Rattle.eme_types.specs.declared.media.Fragment.{Fragment}
-use Rattle.eme_types.specs.declared.entry.Entry.TheVariants.{Call, Job, Task, Tick, Feed, GiveUp, Publish, PassClear, WaitForKey, Settle}
+use Rattle.eme_types.specs.declared.entry.Entry.TheVariants.{Call, Job, Task, Tick, Feed, Evict, GiveUp, Publish, PassClear, WaitForKey, Settle}
 use Rattle.key_sessions.specs.declared.fault.StepFault.{StepFault}
 use Rattle.key_sessions.specs.declared.fault.StepFault.TheVariants.{Empty}
+use Rattle.key_sessions.specs.Evict.{evicts}
 use Rattle.key_claims.specs.declared.claim.Claim.{Claim}
 use Rattle.key_claims.specs.declared.claim.ClaimFault.{ClaimFault}
 use Rattle.key_claims.specs.declared.claim.ClaimFault.TheVariants.{NoWork}
@@ -15,6 +16,7 @@ use Rattle.key_claims.specs.declared.claim.NotWaiting.{NotWaiting}
 use Rattle.std.specs.declared.alloc.AllocError.{AllocError}
 use Rattle.cdm_state.specs.declared.cdm.CallBack.{CallBack}
 use Rattle.cdm_state.specs.declared.cdm.FeedBack.{FeedBack}
+use Rattle.cdm_state.specs.declared.cdm.EvictBack.{EvictBack}
 use Rattle.cdm_state.specs.declared.cdm.SettleFault.{SettleFault}
 use Rattle.cdm_state.specs.History.{world, AtRest, MayClaim, MayPublish, MayPassClear, MayWait}
 use Rattle.cdm_state.specs.Settlements.{calls_in}
@@ -57,6 +59,13 @@ pub record FeedDoes (line : ℕ) (fragment : Option Fragment) (old : Run) (resul
   pub ok : OnOk result (new ≡ with_entry old (Feed line fragment))
   pub err : OnErr result (new ≡ old)
   pub back : IfErr result (λ b. b.fragment ≡ fragment)
+
+-- the CDM ends the session with the label, where it is neither closing nor closed, and it is told whether it was; where memory is wanting the label is handed back
+pub record EvictDoes (line : ℕ) (label : List ℕ) (old : Run) (result : Result Bool EvictBack) (new : Run) : Type 0 where
+  pub ok : OnOk result (new ≡ with_entry old (Evict line label))
+  pub evicted : IfOk result (λ b. b ≡ evicts label (world old.tracks old.history).machine)
+  pub err : OnErr result (new ≡ old)
+  pub back : IfErr result (λ b. b.label ≡ label)
 
 -- the clear bytes of the claim at a place come back
 abbrev pub DeliverDoes : ℕ → List ℕ → Run → Delivered → Run → Type 0

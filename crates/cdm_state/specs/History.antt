@@ -6,7 +6,7 @@ use Rattle.eme_types.specs.declared.sample.EncSample.{EncSample}
 use Rattle.eme_types.specs.declared.sample.Protect.{Protect}
 use Rattle.eme_types.specs.declared.media.Fragment.{Fragment}
 use Rattle.eme_types.specs.declared.entry.Entry.{Entry}
-use Rattle.eme_types.specs.declared.entry.Entry.TheVariants.{Call, Job, Task, Tick, Feed, Claim, Deliver, GiveUp, Publish, PassClear, WaitForKey, Settle}
+use Rattle.eme_types.specs.declared.entry.Entry.TheVariants.{Call, Job, Task, Tick, Feed, Evict, Claim, Deliver, GiveUp, Publish, PassClear, WaitForKey, Settle}
 use Rattle.eme_types.specs.declared.entry.Verdict.TheVariants.{Taken}
 use Rattle.eme_types.specs.Fed.{are_known, are_well_formed, fragment_samples, fragment_bytes}
 use Rattle.eme_types.specs.declared.limits.TheConstants.{MAX_SAMPLES, MAX_SAMPLE_BYTES, CLAIM_WINDOW}
@@ -30,6 +30,7 @@ Ends Job place = ⊥
 Ends Task place = ⊥
 Ends (Tick line moment) place = ⊥
 Ends (Feed line fragment) place = ⊥
+Ends (Evict line label) place = ⊥
 Ends (Claim worker track index session kid) place = ⊥
 Ends (Deliver p verdict) place = ⊥
 Ends (GiveUp p) place = p ≡ place
@@ -45,6 +46,7 @@ Spends Job place = ⊥
 Spends Task place = ⊥
 Spends (Tick line moment) place = ⊥
 Spends (Feed line fragment) place = ⊥
+Spends (Evict line label) place = ⊥
 Spends (Claim worker track index session kid) place = ⊥
 Spends (Deliver p verdict) place = p ≡ place
 Spends (GiveUp p) place = p ≡ place
@@ -60,6 +62,7 @@ HoldsFor w Job key = ⊥
 HoldsFor w Task key = ⊥
 HoldsFor w (Tick line moment) key = ⊥
 HoldsFor w (Feed line fragment) key = ⊥
+HoldsFor w (Evict line label) key = ⊥
 HoldsFor w (Claim worker track index session kid) key = held_key w.machine session kid ≡ Some key
 HoldsFor w (Deliver p verdict) key = ⊥
 HoldsFor w (GiveUp p) key = ⊥
@@ -85,6 +88,7 @@ IsOn Job t i = ⊥
 IsOn Task t i = ⊥
 IsOn (Tick line moment) t i = ⊥
 IsOn (Feed line fragment) t i = ⊥
+IsOn (Evict line label) t i = ⊥
 IsOn (Claim worker track index session kid) t i = (track ≡ t) × (index ≡ i)
 IsOn (Deliver p verdict) t i = ⊥
 IsOn (GiveUp p) t i = ⊥
@@ -178,6 +182,7 @@ fed_samples_of Job = 0
 fed_samples_of Task = 0
 fed_samples_of (Tick line moment) = 0
 fed_samples_of (Feed line fragment) = samples_in fragment
+fed_samples_of (Evict line label) = 0
 fed_samples_of (Claim worker track index session kid) = 0
 fed_samples_of (Deliver p verdict) = 0
 fed_samples_of (GiveUp p) = 0
@@ -193,6 +198,7 @@ fed_bytes_of Job = 0
 fed_bytes_of Task = 0
 fed_bytes_of (Tick line moment) = 0
 fed_bytes_of (Feed line fragment) = bytes_in fragment
+fed_bytes_of (Evict line label) = 0
 fed_bytes_of (Claim worker track index session kid) = 0
 fed_bytes_of (Deliver p verdict) = 0
 fed_bytes_of (GiveUp p) = 0
@@ -228,6 +234,7 @@ Allowed ids h Job = (world ids h).machine.jobs ≢ []
 Allowed ids h Task = (world ids h).machine.tasks ≢ []
 Allowed ids h (Tick line moment) = (world ids h).machine.moment ≤ moment
 Allowed ids h (Feed line fragment) = MayFeedNext ids h fragment
+Allowed ids h (Evict line label) = Unit {0}
 Allowed ids h (Claim worker track index session kid) = MayClaim ids h track index session kid
 Allowed ids h (Deliver place verdict) = Undelivered h place × ((verdict ≡ Taken) ↔ Live ids h place)
 Allowed ids h (GiveUp place) = Undelivered h place

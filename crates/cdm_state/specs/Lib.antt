@@ -19,3 +19,4 @@ pub mod Progress
 pub mod Open
 pub mod OfSamples
 pub mod Waiting
+pub mod Later

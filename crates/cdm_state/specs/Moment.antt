@@ -2,7 +2,7 @@
 use Rattle.std.specs.Prelude.{ℕ, List}
 use Rattle.std.specs.List.{fold}
 use Rattle.eme_types.specs.declared.entry.Entry.{Entry}
-use Rattle.eme_types.specs.declared.entry.Entry.TheVariants.{Call, Job, Task, Tick, Feed, Claim, Deliver, GiveUp, Publish, PassClear, WaitForKey, Settle}
+use Rattle.eme_types.specs.declared.entry.Entry.TheVariants.{Call, Job, Task, Tick, Feed, Evict, Claim, Deliver, GiveUp, Publish, PassClear, WaitForKey, Settle}
 
 -- the moment after an entry: a tick sets its own, each other entry leaves it
 abbrev pub tick_to : ℕ → Entry → ℕ
@@ -11,6 +11,7 @@ tick_to n Job = n
 tick_to n Task = n
 tick_to n (Tick line moment) = moment
 tick_to n (Feed line fragment) = n
+tick_to n (Evict line label) = n
 tick_to n (Claim worker track index session kid) = n
 tick_to n (Deliver place verdict) = n
 tick_to n (GiveUp place) = n

@@ -5,7 +5,7 @@ use Rattle.eme_types.specs.declared.sample.EncSample.{EncSample}
 use Rattle.eme_types.specs.declared.sample.Protect.{Protect}
 use Rattle.eme_types.specs.declared.media.TrackPart.{TrackPart}
 use Rattle.eme_types.specs.declared.entry.Entry.{Entry}
-use Rattle.eme_types.specs.declared.entry.Entry.TheVariants.{Call, Job, Task, Tick, Feed, Claim, Deliver, GiveUp, Publish, PassClear, WaitForKey, Settle}
+use Rattle.eme_types.specs.declared.entry.Entry.TheVariants.{Call, Job, Task, Tick, Feed, Evict, Claim, Deliver, GiveUp, Publish, PassClear, WaitForKey, Settle}
 use Rattle.key_sessions.specs.Keys.{held_key}
 use Rattle.cdm_world.specs.Tracks.{TrackState, find_track}
 use Rattle.cdm_state.specs.Feeds.{parts_in}
@@ -23,6 +23,7 @@ samples_on track Job = []
 samples_on track Task = []
 samples_on track (Tick line moment) = []
 samples_on track (Feed line fragment) = flat_map (part_on track) (parts_in fragment)
+samples_on track (Evict line label) = []
 samples_on track (Claim worker t index session kid) = []
 samples_on track (Deliver place verdict) = []
 samples_on track (GiveUp place) = []

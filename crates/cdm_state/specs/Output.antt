@@ -3,7 +3,7 @@ use Rattle.std.specs.Prelude.{ℕ, ◌-◌, ◌==◌, if◌then◌else◌, List,
 use Rattle.eme_types.specs.declared.kid.KeyBytes.{KeyBytes}
 use Rattle.eme_types.specs.declared.sample.EncSample.{EncSample}
 use Rattle.eme_types.specs.declared.entry.Entry.{Entry}
-use Rattle.eme_types.specs.declared.entry.Entry.TheVariants.{Call, Job, Task, Tick, Feed, Claim, Deliver, GiveUp, Publish, PassClear, WaitForKey, Settle}
+use Rattle.eme_types.specs.declared.entry.Entry.TheVariants.{Call, Job, Task, Tick, Feed, Evict, Claim, Deliver, GiveUp, Publish, PassClear, WaitForKey, Settle}
 use Rattle.sample_crypt.specs.Decryption.{decryption}
 use Rattle.key_sessions.specs.Keys.{held_key}
 use Rattle.cdm_world.specs.Tracks.{TrackState, find_track}
@@ -27,6 +27,7 @@ key_for w (Some Job) = None
 key_for w (Some Task) = None
 key_for w (Some (Tick line moment)) = None
 key_for w (Some (Feed line fragment)) = None
+key_for w (Some (Evict line label)) = None
 key_for w (Some (Claim worker track index session kid)) = held_key w.machine session kid
 key_for w (Some (Deliver p verdict)) = None
 key_for w (Some (GiveUp p)) = None
@@ -57,6 +58,7 @@ output_of ids h t Job = []
 output_of ids h t Task = []
 output_of ids h t (Tick line moment) = []
 output_of ids h t (Feed line fragment) = []
+output_of ids h t (Evict line label) = []
 output_of ids h t (Claim worker track index session kid) = []
 output_of ids h t (Deliver p verdict) = []
 output_of ids h t (GiveUp p) = []

@@ -9,8 +9,9 @@ ghost use Rattle.cdm_state.specs.History.{world, IsLegal, MayFeedNext};
 ghost use Rattle.cdm_state.specs.Settlements.{effects_in};
 ghost use Rattle.cdm_state.specs.Output.{out};
 ghost use Rattle.cdm_state.specs.Contract.{IsOpen};
-ghost use Rattle.cdm_state.specs.Does.{CallDoes, JobDoes, TaskDoes, TickDoes, FeedDoes, ClaimDoes, DeliverDoes, GiveUpDoes, PublishDoes, PassClearDoes, WaitDoes, SettleDoes};
+ghost use Rattle.cdm_state.specs.Does.{CallDoes, JobDoes, TaskDoes, TickDoes, FeedDoes, EvictDoes, ClaimDoes, DeliverDoes, GiveUpDoes, PublishDoes, PassClearDoes, WaitDoes, SettleDoes};
 ghost use Rattle.cdm_state.specs.Run.{Run};
+ghost use Rattle.cdm_state.specs.Later.{waits_later, protect_later};
 ghost use Rattle.key_sessions.specs.Keys.{pick};
 ghost use Rattle.key_claims.specs.Changes.{resumed_one};
 ghost use Rattle.key_claims.specs.Choice.{NoWork};
@@ -21,7 +22,8 @@ use crate::chronicle::Chronicle;
 use crate::feed::queue_events;
 use crate::parts::{Parts, close_place};
 use eme_types::{
-    AppCall, Bytes, Copies, Effect, EncSample, Entry, Event, Fragment, KeyId, TrackIds, Verdict,
+    AppCall, Bytes, Copies, Effect, EncSample, Entry, Event, Fragment, KeyId, Protect, TrackIds,
+    Verdict,
 };
 use key_claims::{Claim, ClaimFault, Delivered, NotReady, NotWaiting, Published, Tracks};
 use key_sessions::{Sessions, StepFault};
@@ -39,6 +41,13 @@ pub struct CallBack {
 #[derive(Drop)]
 pub struct FeedBack {
     pub fragment: Option<Fragment>,
+    pub error: AllocError,
+}
+
+/// An eviction that wanted memory, with the label handed back.
+#[derive(Drop)]
+pub struct EvictBack {
+    pub label: Bytes,
     pub error: AllocError,
 }
 
@@ -139,6 +148,20 @@ impl Cdm {
         self.parts.tracks.waiting(track)
     }
 
+    /// Whether the track waits, and a session that is not closed holds the key of its head with the status
+    /// `usable-in-future` (Encrypted Media Extensions, MediaKeyStatus).
+    pub fn waits_later(&self, track: u32) -> bool
+        ensures { result ≡ waits_later (world self.now.tracks self.now.history) track }
+    {
+        if !self.parts.tracks.waiting(track) {
+            return false;
+        }
+        match self.parts.tracks.head(track) {
+            None => false,
+            Some(sample) => protect_later(&self.parts.sessions, &sample.protect),
+        }
+    }
+
     /// A call of the application, and the number of its promise.
     pub fn call(&mut self, lane: u8, line: u32, call: AppCall) -> Result<u64, CallBack>
         ensures { CallDoes lane line call self.old result self.new }
@@ -213,6 +236,25 @@ impl Cdm {
             .chronicle
             .append_unseen(Entry::Feed { line, fragment });
         Ok(())
+    }
+
+    /// The CDM ends the session with the label, if it is neither closing nor closed. It answers whether it was.
+    pub fn evict(&mut self, line: u32, label: Bytes) -> Result<bool, EvictBack>
+        ensures { EvictDoes line label self.old result self.new }
+    {
+        if self.parts.reserve(1).is_err() {
+            return Err(EvictBack {
+                label,
+                error: AllocError,
+            });
+        }
+        match self.parts.sessions.evict(label.as_slice()) {
+            Err(error) => Err(EvictBack { label, error }),
+            Ok(evicted) => {
+                self.parts.record_step(Entry::Evict { line, label });
+                Ok(evicted)
+            }
+        }
     }
 
     /// The first track that has a sample to claim gives the one of least index.
@@ -347,6 +389,16 @@ fn resume_if(asked: bool, sessions: &Sessions, tracks: &mut Tracks)
 {
     if asked {
         tracks.resume(sessions);
+    }
+}
+
+/// Whether a sample is protected, and a session that is not closed holds its key, usable later.
+fn protect_later(sessions: &Sessions, protect: &Option<Protect>) -> bool
+    ensures { result ≡ protect_later sessions.now.machine protect.now }
+{
+    match protect {
+        None => false,
+        Some(protect) => sessions.later(&protect.kid),
     }
 }
 

@@ -36,7 +36,8 @@ pub fn claims_are_alone_in_the_window()
     ensures window { ClaimsInTheWindow }
 {}
 
-/// A track waits only at a protected sample without a live claim, and is looked at again once a session holds its key.
+/// A track waits only at a protected sample without a live claim. Where a session holds its key usable, what looks at the track again
+/// is queued: a `Resume`, or an update or a report of that session.
 pub fn tracks_wait_only_for_keys()
     ensures { WaitsOnlyForKeys }
 {}

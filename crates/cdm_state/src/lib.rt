@@ -10,7 +10,7 @@ mod parts;
 #[cfg(test)]
 mod tests;
 
-pub use cdm::{CallBack, Cdm, FeedBack, SettleFault};
+pub use cdm::{CallBack, Cdm, EvictBack, FeedBack, SettleFault};
 pub use key_claims::{Claim, ClaimFault, Delivered, NotReady, NotWaiting, Published};
 pub use key_sessions::StepFault;
 pub use law::{

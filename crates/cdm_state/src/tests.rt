@@ -19,9 +19,9 @@ use eme_types::{
     Samples, Scheme, Settled, StatusList, Subs, TrackIds, TrackPart,
 };
 use rows::{
-    BACK, CLAIMED_AGAIN, CLOSED, CLOSED_TWICE, EXPIRED, FULL, GRANTED, GRANTED_UNTIL_1000,
-    IN_ORDER, ONE_MORE, OPENED, PAST_ITS_TIME, REFUSED, REMOVED, REPLACED, SAME, SECOND, TAKEN,
-    UPDATED, WITHOUT_A_KEY,
+    BACK, CLAIMED_AGAIN, CLOSED, CLOSED_TWICE, EVICTED, EVICTED_BEFORE_ITS_JOB, EXPIRED, FULL,
+    GRANTED, GRANTED_UNTIL_1000, IN_ORDER, LATER, ONE_MORE, OPENED, PAST_ITS_TIME, REFUSED,
+    REMOVED, REPLACED, SAME, SECOND, TAKEN, UPDATED, WITHOUT_A_KEY,
 };
 use sample_crypt::open_sample;
 use std::alloc::{AllocError, Global};
@@ -134,13 +134,14 @@ fn cut(text: &str) -> (&str, &str) {
     }
 }
 
-/// A key set: the key of the samples, another key, first another and then that one, that key until a moment, or as it stands there.
+/// A key set: the key of the samples, another key, first another and then that one, that key until or from a moment, or as it stands there.
 fn key_set(alloc: Global, name: &str) -> Result<Bytes, Fail> {
     let text = match name {
         "same" => format!(in alloc; "{{\"keys\":[{KEY}]}}")?,
         "other" => format!(in alloc; "{{\"keys\":[{OTHER}]}}")?,
         "both" => format!(in alloc; "{{\"keys\":[{OTHER},{KEY}]}}")?,
         "until 1000" => format!(in alloc; "{{\"keys\":[{KEY}],\"expires\":1000}}")?,
+        "from 10" => format!(in alloc; "{{\"keys\":[{KEY}],\"from\":10}}")?,
         text => String::from_str(alloc, text)?,
     };
     Ok(Bytes::from_slice(alloc, text.as_str().as_bytes())?)
@@ -176,6 +177,17 @@ fn ask(alloc: Global, cdm: &mut Cdm, line: &str) -> Result<String, Fail>
     let call = call_of(alloc, line)?;
     match cdm.call(0, 2, call) {
         Ok(promise) => Ok(format!(in alloc; "promise {promise}")?),
+        Err(back) => Err(Fail::from(back.error)),
+    }
+}
+
+/// Whether a session was evicted.
+fn evict(alloc: Global, cdm: &mut Cdm, label: &str) -> Result<String, Fail>
+    ensures { OnOk result ((c : Held) → IsOpen cdm.old c → IsOpen cdm.new c) }
+{
+    let label = Bytes::from_slice(alloc, label.as_bytes())?;
+    match cdm.evict(7, label) {
+        Ok(evicted) => Ok(format!(in alloc; "{evicted}")?),
         Err(back) => Err(Fail::from(back.error)),
     }
 }
@@ -287,7 +299,7 @@ fn settle(alloc: Global, cdm: &mut Cdm) -> Result<String, Fail>
     settled(alloc, cdm.settle(9))
 }
 
-/// The bytes that are out of a sample, and whether the track waits.
+/// The bytes that are out of a sample, and whether the track waits, for a key that is usable later or not.
 fn output(alloc: Global, cdm: &Cdm, index: u32) -> Result<String, Fail> {
     let mut text = String::new(alloc);
     match cdm.output(1, index) {
@@ -300,6 +312,9 @@ fn output(alloc: Global, cdm: &Cdm, index: u32) -> Result<String, Fail> {
     }
     if cdm.waiting(1) {
         text.push_str(", waiting")?;
+    }
+    if cdm.waits_later(1) {
+        text.push_str(" for later")?;
     }
     Ok(text)
 }
@@ -335,7 +350,7 @@ fn fired(alloc: Global, event: &Event) -> Result<String, AllocError> {
 fn effect(alloc: Global, effect: &Effect) -> Result<String, AllocError> {
     match effect {
         Effect::Statuses { session, list } => reported(alloc, *session, list),
-        Effect::Closed { session } => format!(in alloc; "closed {session}"),
+        Effect::Closed { session, reason } => { format!(in alloc; "closed {session} {reason:?}") }
         Effect::Promise { promise, how } => settled_as(alloc, *promise, how),
         Effect::Fired { event } => fired(alloc, event),
     }
@@ -366,6 +381,7 @@ fn step(alloc: Global, cdm: &mut Cdm, line: &str) -> Result<String, Fail>
         ("job", _) => job(alloc, cdm),
         ("task", _) => task(alloc, cdm),
         ("clock", moment) => clock(alloc, cdm, moment.parse::<u64>()?),
+        ("evict", label) => evict(alloc, cdm, label),
         ("publish", _) => publish(alloc, cdm),
         ("pass", _) => pass(alloc, cdm),
         ("wait", _) => wait(alloc, cdm),
@@ -560,6 +576,8 @@ fn claims_are_taken_just_where_their_key_was_held_all_along(rt: HostRuntime) -> 
         REPLACED,
         CLOSED,
         REMOVED,
+        EVICTED,
+        LATER,
         SECOND,
         CLAIMED_AGAIN,
     ] {
@@ -584,7 +602,7 @@ fn samples_are_out_in_order(rt: HostRuntime) -> Result<(), Fail> {
 
 #[test]
 fn the_application_sees_what_was_done(rt: HostRuntime) -> Result<(), Fail> {
-    for rows in [CLOSED_TWICE, UPDATED, FULL] {
+    for rows in [CLOSED_TWICE, EVICTED_BEFORE_ITS_JOB, UPDATED, FULL] {
         assert_eq!(rt; played(rt.alloc(), 0, 1, &[OPENED, rows])?.as_str(), "");
     }
     assert_eq!(rt;

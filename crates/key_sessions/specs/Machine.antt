@@ -1,5 +1,5 @@
 -- The state of the session algorithms (Encrypted Media Extensions section 6, MediaKeySession).
-use Rattle.std.specs.Prelude.{zero, suc, ℕ, Bool, true, false, List, [], ◌∷◌, Option, Some, None, slice_get}
+use Rattle.std.specs.Prelude.{zero, suc, ℕ, Bool, true, false, List, [], ◌∷◌, Option, None, slice_get}
 use Rattle.eme_types.specs.declared.call.Settled.{Settled}
 use Rattle.eme_types.specs.declared.call.Event.{Event}
 use Rattle.eme_types.specs.declared.call.Reason.{Reason}

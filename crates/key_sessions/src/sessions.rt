@@ -1,11 +1,12 @@
 // The sessions with their queues and promises.
 ghost use Rattle.std.specs.Prelude.{◌≡◌, ◌≤◌, ◌<◌, ◌+◌, ◌-◌, [], map, length, Some, OnOk, OnErr, IfOk, IsErrOf, IsTrue, ◌↔◌, ◌≢◌};
+ghost use Rattle.std.specs.List.{list_any};
 ghost use Rattle.eme_types.specs.declared.limits.TheConstants.{MAX_SESSIONS};
 ghost use Rattle.task_queue.specs.declared.work.Task.TheVariants.{Fire};
 ghost use Rattle.key_statuses.specs.Picked.{picked};
 ghost use Rattle.key_sessions.specs.SessionsState.{SessionsState, HasStepped};
 ghost use Rattle.key_sessions.specs.Machine.{empty_machine};
-ghost use Rattle.key_sessions.specs.Keys.{pick, pick_from, is_later};
+ghost use Rattle.key_sessions.specs.Keys.{pick, pick_from, holds_later as later_holds, is_later};
 ghost use Rattle.key_sessions.specs.SessionOf.{session_of};
 ghost use Rattle.key_sessions.specs.LostPair.{pair_of};
 ghost use Rattle.key_sessions.specs.Owed.{IsOwed};
@@ -233,9 +234,7 @@ impl Sessions {
     pub fn later(&self, kid: &KeyId) -> bool
         ensures { result ≡ is_later self.now.machine kid.now }
     {
-        self.items
-            .iter()
-            .any(|session| holds_later(session, self.moment, kid))
+        any_later(&self.items, self.moment, kid)
     }
 
     /// What the last step did that the application can see, in order of happening, until it is taken.
@@ -377,6 +376,14 @@ fn is_resume(task: &Task) -> bool
         Task::Resume => true,
         _ => false,
     }
+}
+
+fn any_later(sessions: &[Session], moment: u64, kid: &KeyId) -> bool
+    ensures { result ≡ list_any (λ s. later_holds moment kid.now (session_of s)) sessions.now }
+{
+    sessions
+        .iter()
+        .any(|session| holds_later(session, moment, kid))
 }
 
 fn choose_in(sessions: &[Session], moment: u64, kid: &KeyId) -> Option<Pick>

@@ -100,9 +100,22 @@ fn told(alloc: Global, sessions: &Sessions) -> Result<String, AllocError> {
     Ok(text)
 }
 
-/// A key set, from an expiration or `-`, and of each key its id and itself as they stand there.
+/// A member that is a moment; none for `-`.
+fn add_moment(text: &mut String, name: &str, moment: &str) -> Result<(), AllocError> {
+    if moment != "-" {
+        write!(text, ",\"{name}\":{moment}")?;
+    }
+    Ok(())
+}
+
+/// A key set, from an expiration or `-`, before which a start and `..` may stand, and of each key its id and itself as
+/// they stand there.
 fn key_set(alloc: Global, words: &str) -> Result<String, AllocError> {
-    let (expires, pairs) = cut(words);
+    let (moments, pairs) = cut(words);
+    let (from, expires) = match moments.split_once("..") {
+        Some(parts) => parts,
+        None => ("-", moments),
+    };
     let mut text = String::from_str(alloc, "{\"keys\":[")?;
     let mut first = true;
     for pair in pairs.split(' ') {
@@ -120,9 +133,8 @@ fn key_set(alloc: Global, words: &str) -> Result<String, AllocError> {
         )?;
     }
     text.push_str("]")?;
-    if expires != "-" {
-        write!(&mut text, ",\"expires\":{expires}")?;
-    }
+    add_moment(&mut text, "from", from)?;
+    add_moment(&mut text, "expires", expires)?;
     text.push_str("}")?;
     Ok(text)
 }
@@ -226,11 +238,27 @@ fn picked(alloc: Global, sessions: &Sessions, numbers: &str) -> Result<String, F
     }
 }
 
-/// Does what a line says, and tells what came of it: a job, a task, every task, a moment, a pick or a call.
+/// Whether a key is usable later.
+fn later(alloc: Global, sessions: &Sessions, numbers: &str) -> Result<String, Fail> {
+    let later = sessions.later(&kid_of(alloc, numbers)?);
+    Ok(format!(in alloc; "{later}")?)
+}
+
+/// Whether a session was evicted, and what the eviction did.
+fn evicted(alloc: Global, sessions: &mut Sessions, label: &str) -> Result<String, Fail> {
+    let ended = sessions.evict(label.as_bytes())?;
+    let told = told(alloc, sessions)?;
+    Ok(format!(in alloc; "{ended}; {told}")?)
+}
+
+/// Does what a line says, and tells what came of it: a job, a task, every task, a moment, a pick, a key that is usable
+/// later, an eviction or a call.
 fn act(alloc: Global, sessions: &mut Sessions, line: &str) -> Result<String, Fail> {
     let (verb, rest) = cut(line);
     let did = match verb {
         "pick" => return picked(alloc, sessions, rest),
+        "later" => return later(alloc, sessions, rest),
+        "evict" => return evicted(alloc, sessions, rest),
         "job" => step(sessions, true)?,
         "task" => step(sessions, false)?,
         "tasks" => {
@@ -321,7 +349,7 @@ close a -> nothing
 close a -> promise 6 resolved
 keys a - AQ:K34VFiiu0qar9xWICc9PPA -> promise 7 rejected InvalidState
 job -> lost 1 .2; lost 1 .1; lost 1 .1.0
-task -> statuses 1; closed 1; promise 5 resolved
+task -> statuses 1; closed 1 ClosedByApplication; promise 5 resolved
 task -> keystatuseschange 1
 task -> nothing
 job -> empty
@@ -352,6 +380,104 @@ task -> keystatuseschange 1
 task -> nothing
 keys a - AQ:K34VFiiu0qar9xWICc9PPA -> nothing
 job -> nothing
+"#;
+
+const STARTED: &[u8] = br#"
+keys a 1000..500 AQ:K34VFiiu0qar9xWICc9PPA -> nothing
+job -> nothing
+task -> statuses 1 .1=UsableInFuture; promise 3 resolved
+tasks -> nothing
+later 1 -> true
+later 2 -> false
+pick 1 -> no pick
+clock 499 -> nothing
+task -> empty
+later 1 -> true
+clock 500 -> nothing
+later 1 -> false
+task -> statuses 1 .1=Expired
+tasks -> nothing
+clock 1000 -> nothing
+task -> empty
+later 1 -> false
+pick 1 -> no pick
+keys a 1000..- AQ:K34VFiiu0qar9xWICc9PPA -> nothing
+job -> nothing
+task -> statuses 1 .1=Usable; promise 4 resolved
+tasks -> nothing
+later 1 -> false
+pick 1 -> session 1 43
+keys a 2000..- AQ:K34VFiiu0qar9xWICc9PPA -> nothing
+job -> lost 1 .1
+pick 1 -> no pick
+task -> statuses 1 .1=UsableInFuture; promise 5 resolved
+tasks -> nothing
+clock 1999 -> nothing
+task -> empty
+pick 1 -> no pick
+clock 2000 -> nothing
+pick 1 -> session 1 43
+task -> statuses 1 .1=Usable
+task -> keystatuseschange 1
+task -> nothing
+keys a 3000..4000 AQ:K34VFiiu0qar9xWICc9PPA -> nothing
+job -> lost 1 .1
+tasks -> nothing
+clock 5000 -> nothing
+task -> statuses 1 .1=Expired
+tasks -> nothing
+keys a 6000..- AQ:K34VFiiu0qar9xWICc9PPA -> nothing
+job -> nothing
+tasks -> nothing
+later 1 -> true
+close a -> nothing
+job -> nothing
+later 1 -> false
+clock 6000 -> nothing
+task -> statuses 1; closed 1 ClosedByApplication; promise 8 resolved
+"#;
+
+const EVICTED: &[u8] = br#"
+keys a - AQ:K34VFiiu0qar9xWICc9PPA Ag:K34VFiiu0qar9xWICc9PPA -> nothing
+job -> nothing
+task -> statuses 1 .1=Usable .2=Usable; promise 3 resolved
+tasks -> nothing
+update a x -> nothing
+remove a -> nothing
+evict b -> false; nothing
+evict a -> true; lost 1 .1; lost 1 .2
+evict a -> false; nothing
+pick 1 -> no pick
+close a -> promise 6 resolved
+update a x -> promise 7 rejected InvalidState
+job -> nothing
+job -> nothing
+job -> empty
+task -> statuses 1; closed 1 ResourceEvicted
+evict a -> false; nothing
+task -> promise 4 rejected InvalidState
+task -> promise 5 rejected InvalidState
+task -> keystatuseschange 1
+task -> nothing
+task -> empty
+create b temporary -> promise 8 resolved
+request b keyids {"kids":["AQ"]} -> nothing
+evict b -> true; nothing
+job -> nothing
+task -> statuses 2; closed 2 ResourceEvicted
+task -> promise 9 rejected InvalidState
+tasks -> nothing
+create c temporary -> promise 10 resolved
+request c keyids {"kids":["AQ"]} -> nothing
+job -> nothing
+task -> promise 11 resolved
+tasks -> message 3 2 {"kids":["AQ"],"type":"temporary"}
+close c -> nothing
+evict c -> false; nothing
+job -> nothing
+evict c -> false; nothing
+task -> statuses 3; closed 3 ClosedByApplication; promise 12 resolved
+evict c -> false; nothing
 "#;
 
 const EMPTY: &[u8] = br#"
@@ -405,6 +531,18 @@ fn a_session_is_opened_updated_and_closed(rt: HostRuntime) -> Result<(), Fail> {
 #[test]
 fn keys_are_lost_by_change_removal_and_time(rt: HostRuntime) -> Result<(), Fail> {
     assert!(rt; holds(rt.alloc(), OPENED, LOST)?);
+    Ok(())
+}
+
+#[test]
+fn keys_are_usable_from_their_start(rt: HostRuntime) -> Result<(), Fail> {
+    assert!(rt; holds(rt.alloc(), OPENED, STARTED)?);
+    Ok(())
+}
+
+#[test]
+fn an_evicted_session_ends(rt: HostRuntime) -> Result<(), Fail> {
+    assert!(rt; holds(rt.alloc(), OPENED, EVICTED)?);
     Ok(())
 }
 

@@ -1,7 +1,7 @@
-use Rattle.std.proofs.Common.{◌≡◌, List, ℕ, [], map, slice_index_or, refl}
+use Rattle.std.proofs.Common.{◌≡◌, [], map, slice_index_or, refl}
 use Rattle.aes128.specs.Bytes.{AreBytes}
 use Rattle.aes128.specs.KeyExpansion.{round_key}
-use Rattle.aes128.specs.InverseCipher.{inv_mix_columns, inv_rounds, inv_cipher, inverse_round_keys}
+use Rattle.aes128.specs.InverseCipher.{inv_rounds, inv_cipher, inverse_round_keys}
 use Rattle.aes128.specs.Words.{state_of_words}
 use Rattle.aes128.proofs.Steps.{round_key_bytes}
 use Rattle.aes128.proofs.WordLaws.{words_bytes, item_state}

@@ -1,4 +1,4 @@
-use Rattle.std.proofs.Common.{◌≡◌, List, ℕ, [], map, refl}
+use Rattle.std.proofs.Common.{◌≡◌, [], map, refl}
 use Rattle.aes128.specs.KeyExpansion.{round_keys}
 use Rattle.aes128.specs.Cipher.{rounds, cipher}
 use Rattle.aes128.specs.Words.{state_of_words}

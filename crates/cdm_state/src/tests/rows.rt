@@ -32,12 +32,33 @@ done -> promise 5 rejected InvalidState
 job -> done
 done -> nothing
 task -> done
-done -> statuses 1; closed 1; promise 3 resolved
+done -> statuses 1; closed 1 ClosedByApplication; promise 3 resolved
 task -> done
 done -> keystatuseschange 1
 task -> done
 task -> none
 job -> none
+"#;
+
+/// The job of an evicted session rejects its promise.
+pub const EVICTED_BEFORE_ITS_JOB: &[u8] = br#"
+update a same -> promise 3
+evict b -> false
+evict a -> true
+done -> nothing
+job -> done
+done -> nothing
+task -> done
+done -> statuses 1; closed 1 ResourceEvicted
+task -> done
+done -> promise 3 rejected InvalidState
+task -> done
+done -> keystatuseschange 1
+task -> done
+task -> none
+close a -> promise 4
+done -> promise 4 resolved
+settle -> track 1
 "#;
 
 pub const UPDATED: &[u8] = br#"
@@ -172,6 +193,52 @@ claim -> no work
 wait -> track 1
 wait -> not waiting
 output 0 -> nothing, waiting
+"#;
+
+/// An evicted session's claim is stale, and it is evicted once.
+pub const EVICTED: &[u8] = br#"
+claim -> sample 0 of 1 under 1 with 2b at 12
+evict a -> true
+settle -> task
+deliver -> stale
+evict a -> false
+publish -> not ready
+claim -> no work
+wait -> track 1
+output 0 -> nothing, waiting
+"#;
+
+/// A key whose start is still to come is lost until then.
+pub const LATER: &[u8] = br#"
+claim -> sample 0 of 1 under 1 with 2b at 12
+update a from 10 -> promise 4
+job -> done
+deliver -> stale
+claim -> no work
+output 0 -> nothing
+wait -> track 1
+output 0 -> nothing, waiting for later
+task -> done
+done -> statuses 1 000102030405060708090a0b0c0d0e0f=UsableInFuture; promise 4 resolved
+task -> done
+task -> done
+task -> done
+task -> none
+output 0 -> nothing, waiting for later
+settle -> done
+clock 9 -> done
+task -> none
+clock 10 -> done
+output 0 -> nothing, waiting
+task -> done
+done -> statuses 1 000102030405060708090a0b0c0d0e0f=Usable
+task -> done
+done -> keystatuseschange 1
+task -> done
+output 0 -> nothing
+claim -> sample 0 of 1 under 1 with 2b at 27
+deliver -> taken
+publish -> sample 0 of 1
 "#;
 
 /// A key that was lost and granted again takes a new claim.

@@ -1,4 +1,4 @@
-use Rattle.std.proofs.Common.{◌≡◌, refl, ap, sym, ◌∙◌, List, ℕ, ◌∷◌, []}
+use Rattle.std.proofs.Common.{ap, sym, ◌∙◌, List, ℕ}
 use Rattle.aes128.specs.Cipher.{add_round_key}
 use Rattle.aes128.specs.InverseCipher.{inv_sub_bytes, inv_shift_rows, inv_mix_columns}
 use Rattle.aes128.specs.Words.{state_of_words}
@@ -11,7 +11,6 @@ pub returns : goal.returns
 unfolding state_of_words inv_sub_bytes inv_shift_rows inv_mix_columns add_round_key
 returns c = λ key fits mixed.
     let inner = inv_sub_bytes (inv_shift_rows (state_of_words c.args.s)) in
-    let keyed : state_of_words (c.inv_mixed_column.result ∷ c.inv_mixed_column-2.result ∷ c.inv_mixed_column-3.result ∷ c.inv_mixed_column-4.result ∷ []) ≡ add_round_key (inv_mix_columns inner) (state_of_words c.args.k) =
     rw (
       c.inv_mixed_column.ensures.row_0,
       c.inv_mixed_column.ensures.row_1,
@@ -29,6 +28,6 @@ returns c = λ key fits mixed.
       c.inv_mixed_column-4.ensures.row_1,
       c.inv_mixed_column-4.ensures.row_2,
       c.inv_mixed_column-4.ensures.row_3,
-    ) refl in
-    keyed ∙ ap (λ (k : List ℕ). add_round_key (inv_mix_columns inner) k) mixed
-    ∙ sym (inv_mixed_sum inner key (inv_subbed_bytes _ (inv_shifted_bytes _ (words_bytes c.args.s))) fits)
+    )
+    (ap (λ (k : List ℕ). add_round_key (inv_mix_columns inner) k) mixed
+    ∙ sym (inv_mixed_sum inner key (inv_subbed_bytes _ (inv_shifted_bytes _ (words_bytes c.args.s))) fits))

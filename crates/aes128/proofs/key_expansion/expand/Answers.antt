@@ -1,4 +1,3 @@
-use Rattle.std.proofs.Common.{refl}
 use Rattle.aes128.specs.KeyExpansion.{round_constant, round_key, round_keys}
 use Rattle.aes128.specs.InverseCipher.{inverse_round_keys}
 use Rattle.aes128.proofs.key_expansion.expand.Goals as goal
