@@ -9,7 +9,7 @@ use Rattle.aes128.specs.State.{state_of}
 unfoldable pub word : ℕ → ℕ → ℕ → ℕ → ℕ
 word a b c d = ((a * 256 + b) * 256 + c) * 256 + d
 
--- the byte of row r of a word, that of row 0 highest (3.5)
+-- the byte of row r of a word, that of the first row highest (3.5)
 unfoldable pub row_byte : ℕ → ℕ → ℕ
 row_byte w r = w / 2 ^ (24 - 8 * r) % 256
 

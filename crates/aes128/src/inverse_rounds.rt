@@ -27,7 +27,7 @@ fn inv_mixed(a: u8, b: u8, c: u8, d: u8) -> u32
         ^ (InverseTable::<16>::row(c) ^ InverseTable::<24>::row(d))
 }
 
-// A column after a round but the last: its bytes come from row 0 of `a`, row 1 of `b`, row 2 of `c` and row 3 of `d`.
+// A column after a round but the last: its bytes come from the first row of `a`, the second of `b`, the third of `c` and the last of `d`.
 #[inline(always)]
 fn inv_mixed_column(a: u32, b: u32, c: u32, d: u32, k: u32) -> u32
     ensures row_0 { row_byte result 0

@@ -28,6 +28,7 @@ macro_rules! rounds {
 }
 
 /// The cipher of a block (FIPS 197, section 5.1).
+#[inline(always)]
 pub fn encrypt_block(keys: &RoundKeys, block: [u8; 16]) -> [u8; 16]
     ensures { result ≡ cipher keys.now block }
 {
@@ -37,6 +38,7 @@ pub fn encrypt_block(keys: &RoundKeys, block: [u8; 16]) -> [u8; 16]
 }
 
 /// The inverse cipher of a block (FIPS 197, section 5.3), as the equivalent inverse cipher (section 5.3.5).
+#[inline(always)]
 pub fn decrypt_block(keys: &RoundKeys, block: [u8; 16]) -> [u8; 16]
     ensures { result ≡ inv_cipher keys.now block }
 {

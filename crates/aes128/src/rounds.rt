@@ -21,7 +21,7 @@ fn mixed(a: u8, b: u8, c: u8, d: u8) -> u32
         ^ (WordTable::<16>::row(c) ^ WordTable::<24>::row(d))
 }
 
-// A column after a round but the last: its bytes come from row 0 of `a`, row 1 of `b`, row 2 of `c` and row 3 of `d`.
+// A column after a round but the last: its bytes come from the first row of `a`, the second of `b`, the third of `c` and the last of `d`.
 #[inline(always)]
 fn mixed_column(a: u32, b: u32, c: u32, d: u32, k: u32) -> u32
     ensures row_0 { row_byte result 0 ≡ bit_xor (combined 2 3 1 1 (sub_byte (row_byte a 0)) (sub_byte (row_byte b 1))

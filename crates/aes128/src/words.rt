@@ -1,4 +1,4 @@
-//! The state as four words, one for each column, the byte of row 0 highest (FIPS 197, section 3.5).
+//! The state as four words, one for each column, the byte of the first row highest (FIPS 197, section 3.5).
 
 ghost use Rattle.std.specs.Prelude.{◌≡◌, ◌<◌};
 ghost use Rattle.aes128.specs.Cipher.{add_round_key};

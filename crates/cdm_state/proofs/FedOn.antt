@@ -1,13 +1,12 @@
 -- What was fed stays, and is well formed.
-use Rattle.std.proofs.Common.{zero, suc, ◌≡◌, ℕ, ◌+◌, ◌-◌, ◌<◌, ◌≤◌, Bool, true, false, IsTrue, ◌&&◌, List, [], ◌∷◌, ◌++◌, length, get_or, Option, Some, None, inl, inr, refl, ap, sym, subst, ◌∙◌, arith, map, take, drop, take-append-drop, length-append}
+use Rattle.std.proofs.Common.{zero, suc, ◌≡◌, ℕ, ◌+◌, ◌-◌, ◌≤◌, Bool, true, false, IsTrue, List, [], ◌∷◌, ◌++◌, length, get_or, Option, Some, None, inl, inr, refl, ap, sym, subst, ◌∙◌, arith, map, take, drop, take-append-drop, length-append}
 use Rattle.std.specs.Prelude.{if◌then◌else◌, slice_get, is_some, Contains, ◌==◌}
 use Rattle.std.specs.List.{fold, list_all}
 use Rattle.std.proofs.lemmas.List.{take_all}
 use Rattle.std.proofs.lemmas.List.Sums.{fold-append}
 use Rattle.std.proofs.lemmas.List.Folds.{list_all-append}
 use Rattle.std.proofs.lemmas.Option.{slice_get-get_or, slice_get_within}
-use Rattle.std.proofs.lemmas.Bool.Decides.{eqb_tells, leb_tells}
-use Rattle.std.proofs.Math.Nat.{eq-or-lt_of_le}
+use Rattle.std.proofs.lemmas.Bool.Decides.{eqb_tells}
 use Rattle.eme_types.specs.WellFormed.{is_well_formed}
 use Rattle.eme_types.specs.declared.sample.EncSample.{EncSample}
 use Rattle.eme_types.specs.declared.sample.Protect.{Protect}
@@ -29,7 +28,7 @@ use Rattle.cdm_state.specs.Contract.{IsOpen}
 use Rattle.cdm_state.specs.Claims.{HasKid, ClearKept, LegalKept}
 use Rattle.cdm_state.specs.Kept.{world_of}
 use Rattle.key_claims.specs.Claims.{is_ready}
-use Rattle.key_claims.specs.Choice.{ready_on, IsReady, NoneReady, IsWork}
+use Rattle.key_claims.specs.Choice.{ready_on, NoneReady, IsWork}
 use Rattle.cdm_state.proofs.Copied.{IsCopied, Copied}
 use Rattle.key_claims.specs.declared.choice.Work.{Work}
 use Rattle.eme_types.specs.Fed.{are_distinct}

@@ -1,5 +1,5 @@
 -- What the core chooses is allowed after its history, and where it chooses nothing, nothing is.
-use Rattle.std.proofs.Common.{zero, suc, ◌≡◌, ◌≢◌, ℕ, ◌-◌, ◌<◌, Bool, true, false, IsTrue, ◌&&◌, List, [], ◌∷◌, length, get_or, Option, Some, None, is_some, is_none, inl, inr, refl, ap, sym, subst, ◌∙◌, arith, map, true≢false, ◌↔◌, take, ◌==◌}
+use Rattle.std.proofs.Common.{zero, suc, ◌≡◌, ◌≢◌, ℕ, ◌-◌, ◌<◌, Bool, true, false, IsTrue, List, [], ◌∷◌, length, get_or, Option, Some, None, is_some, is_none, inl, inr, refl, ap, sym, subst, ◌∙◌, arith, map, true≢false, ◌↔◌, take, ◌==◌}
 use Rattle.std.specs.Prelude.{if◌then◌else◌, slice_get, Contains}
 use Rattle.std.proofs.lemmas.List.{get_or-map, length-map}
 use Rattle.std.proofs.lemmas.Bool.Decides.{eqb_tells}

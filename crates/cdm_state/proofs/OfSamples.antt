@@ -1,5 +1,5 @@
 -- What was fed, claimed and published on a track.
-use Rattle.std.proofs.Common.{zero, suc, ◌≡◌, ℕ, ◌+◌, ◌-◌, Bool, true, false, inl, inr, List, [], ◌∷◌, ◌++◌, length, map, take, Option, Some, None, refl, ap, sym, subst, ◌∙◌, arith, eqb, append-nil, append_assoc, length-append}
+use Rattle.std.proofs.Common.{◌≡◌, ℕ, ◌+◌, ◌-◌, Bool, true, false, inl, inr, List, [], ◌∷◌, ◌++◌, length, map, take, Option, Some, None, refl, ap, sym, subst, ◌∙◌, arith, eqb, append-nil, append_assoc, length-append}
 use Rattle.std.specs.Prelude.{slice_get, if◌then◌else◌, flat_map}
 use Rattle.std.specs.List.{fold}
 use Rattle.std.proofs.lemmas.Bool.Decides.{eqb_tells}
@@ -15,7 +15,7 @@ use Rattle.cdm_state.specs.After.{after_entry, feed_step}
 use Rattle.cdm_state.specs.Feeds.{parts_in}
 use Rattle.cdm_state.specs.Slots.{entry_of}
 use Rattle.cdm_state.specs.Output.{fed_at, fed_sample, key_for, claim_key, opened, data_of, output_of, out}
-use Rattle.cdm_state.specs.History.{world, IsAt, IsLegal, Allowed, LiveOn, MayPublish, MayPassClear}
+use Rattle.cdm_state.specs.History.{world, IsAt, IsLegal, Allowed, MayPublish, MayPassClear}
 use Rattle.cdm_state.specs.OfSamples.{part_on, samples_on, FedInOrder, IsOfItsSample, LiveClaimsAreOfTheirSamples, PublishedAreOut}
 use Rattle.cdm_state.proofs.TrackLists.{not_same}
 use Rattle.cdm_state.proofs.Histories.{world_more, legal_induction}

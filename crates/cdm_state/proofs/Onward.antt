@@ -1,6 +1,6 @@
 -- What the core keeps, after each of its calls.
 use Rattle.std.proofs.Common.{◌≡◌, ℕ, ◌+◌, ◌-◌, true, IsTrue, List, [], ◌∷◌, ◌++◌, length, get_or, Option, Some, None, refl, ap, sym, subst, ◌∙◌, map, take, append-nil}
-use Rattle.std.specs.Prelude.{filter, slice_get}
+use Rattle.std.specs.Prelude.{filter}
 use Rattle.eme_types.specs.Fed.{are_distinct}
 use Rattle.eme_types.specs.declared.call.Effect.{Effect}
 use Rattle.eme_types.specs.declared.call.Event.TheVariants.{WaitingForKey}

@@ -6,7 +6,7 @@ use Rattle.eme_types.specs.declared.entry.Entry.{Entry}
 use Rattle.eme_types.specs.declared.entry.Entry.TheVariants.{Call, Job, Task, Tick, Feed, Evict, Claim, Deliver, GiveUp, Publish, PassClear, WaitForKey, Settle}
 use Rattle.cdm_state.specs.Moment.{tick_to, last_moment}
 use Rattle.cdm_state.specs.Law.{MomentIsPastEachTick}
-use Rattle.cdm_state.specs.History.{world, Allowed}
+use Rattle.cdm_state.specs.History.{Allowed}
 use Rattle.cdm_state.proofs.Places.{either_place}
 use Rattle.cdm_state.proofs.Histories.{legal_induction}
 use Rattle.cdm_state.proofs.Moment.{moment_is}

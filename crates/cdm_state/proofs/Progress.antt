@@ -1,6 +1,6 @@
 -- A core that can do nothing more is at rest.
 use Rattle.std.proofs.Common.{zero, suc, ◌≡◌, ℕ, ◌+◌, ◌-◌, ◌<◌, inl, inr, Bool, true, false, not, IsTrue, List, [], ◌∷◌, ◌++◌, map, length, get_or, Option, Some, None, is_some, refl, ap, sym, subst, ◌∙◌, arith, true≢false, eqb}
-use Rattle.std.specs.Prelude.{slice_get, Contains, filter}
+use Rattle.std.specs.Prelude.{Contains, filter}
 use Rattle.std.proofs.lemmas.Bool.Decides.{eqb_tells}
 use Rattle.eme_types.specs.Fed.{are_distinct, is_among}
 use Rattle.eme_types.specs.declared.kid.KeyBytes.{KeyBytes}

@@ -1,5 +1,5 @@
 -- At rest there is nothing to do, and what ends a claim leaves it at rest.
-use Rattle.std.proofs.Common.{zero, suc, ◌≡◌, ℕ, ◌≤◌, Bool, true, false, List, [], ◌∷◌, ◌++◌, Option, Some, None, refl, ap, sym, subst, ◌∙◌, arith, true≢false, eqb}
+use Rattle.std.proofs.Common.{zero, suc, ◌≡◌, ℕ, ◌≤◌, Bool, true, false, List, [], ◌∷◌, Option, Some, None, refl, ap, sym, subst, ◌∙◌, arith, true≢false, eqb}
 use Rattle.std.specs.Prelude.{slice_get, if◌then◌else◌, All}
 use Rattle.std.specs.List.{fold}
 use Rattle.std.proofs.lemmas.List.Sums.{fold-append}
@@ -8,9 +8,9 @@ use Rattle.eme_types.specs.declared.entry.Entry.{Entry}
 use Rattle.eme_types.specs.declared.entry.Entry.TheVariants.{Call, Job, Task, Tick, Feed, Evict, Claim, Deliver, GiveUp, Publish, PassClear, WaitForKey, Settle}
 use Rattle.key_sessions.specs.Keys.{pick}
 use Rattle.key_sessions.specs.World.{World, empty_world}
-use Rattle.cdm_world.specs.Tracks.{Picks, TrackState, head, find_track, Unpicked, HeadAtRest, TrackAtRest}
+use Rattle.cdm_world.specs.Tracks.{TrackState, head, find_track, Unpicked, HeadAtRest, TrackAtRest}
 use Rattle.cdm_state.specs.After.{after_entry}
-use Rattle.cdm_state.specs.Output.{fed_at, fed_sample}
+use Rattle.cdm_state.specs.Output.{fed_at}
 use Rattle.cdm_state.specs.History.{world, IsLegal, AtRest, LiveOn, Spends, MayClaim, MayPublish, MayPassClear, MayWait}
 use Rattle.cdm_state.specs.Progress.{RestIsQuiet, RestStays, SpendClaims}
 use Rattle.cdm_state.proofs.Resuming.{waits_only}

@@ -4,7 +4,7 @@ use Rattle.std.specs.List.{fold, sum_by, flat_map, AllByRecursion}
 use Rattle.std.proofs.lemmas.List.Concat.{flat_map-append}
 use Rattle.std.proofs.lemmas.List.Sums.{sum_by-append, sum_by-cons, fold-append}
 use Rattle.eme_types.specs.declared.entry.Entry.{Entry}
-use Rattle.eme_types.specs.declared.entry.Entry.TheVariants.{Call, Job, Task, Tick, Feed, Claim, Deliver, GiveUp, Publish, PassClear, WaitForKey, Settle}
+use Rattle.eme_types.specs.declared.entry.Entry.TheVariants.{Call, Job, Task, Tick, Feed, Evict, Claim, Deliver, GiveUp, Publish, PassClear, WaitForKey, Settle}
 use Rattle.cdm_state.specs.Run.{Run}
 use Rattle.cdm_state.specs.History.{fed_samples_of, fed_bytes_of}
 use Rattle.cdm_state.specs.Moment.{tick_to}
@@ -23,6 +23,7 @@ step_samples Job s = refl
 step_samples Task s = refl
 step_samples (Tick line moment) s = absurd s
 step_samples (Feed line fragment) s = absurd s
+step_samples (Evict line label) s = absurd s
 step_samples (Claim worker track index session kid) s = refl
 step_samples (Deliver place verdict) s = refl
 step_samples (GiveUp place) s = absurd s
@@ -37,6 +38,7 @@ step_bytes Job s = refl
 step_bytes Task s = refl
 step_bytes (Tick line moment) s = absurd s
 step_bytes (Feed line fragment) s = absurd s
+step_bytes (Evict line label) s = absurd s
 step_bytes (Claim worker track index session kid) s = refl
 step_bytes (Deliver place verdict) s = refl
 step_bytes (GiveUp place) s = absurd s
@@ -51,6 +53,7 @@ step_ticks n Job s = refl
 step_ticks n Task s = refl
 step_ticks n (Tick line moment) s = absurd s
 step_ticks n (Feed line fragment) s = absurd s
+step_ticks n (Evict line label) s = absurd s
 step_ticks n (Claim worker track index session kid) s = refl
 step_ticks n (Deliver place verdict) s = refl
 step_ticks n (GiveUp place) s = absurd s
@@ -65,6 +68,7 @@ step_alone Job s = tt
 step_alone Task s = tt
 step_alone (Tick line moment) s = absurd s
 step_alone (Feed line fragment) s = absurd s
+step_alone (Evict line label) s = absurd s
 step_alone (Claim worker track index session kid) s = s
 step_alone (Deliver place verdict) s = tt
 step_alone (GiveUp place) s = absurd s
@@ -142,6 +146,7 @@ none_given_up h worker Job a = refl
 none_given_up h worker Task a = refl
 none_given_up h worker (Tick line moment) a = refl
 none_given_up h worker (Feed line fragment) a = refl
+none_given_up h worker (Evict line label) a = refl
 none_given_up h worker (Claim claimant track index session kid) a = refl
 none_given_up h worker (Deliver place verdict) a = refl
 none_given_up h worker (GiveUp place) a = absurd a

@@ -6,10 +6,10 @@ use Rattle.eme_types.specs.declared.media.Fragment.{Fragment}
 use Rattle.cdm_world.proofs.ItemsAt.{get_left}
 use Rattle.eme_types.specs.declared.media.Media.{Media}
 use Rattle.eme_types.specs.declared.entry.Entry.{Entry}
-use Rattle.eme_types.specs.declared.entry.Entry.TheVariants.{Call, Job, Task, Tick, Feed, Claim, Deliver, GiveUp, Publish, PassClear, WaitForKey, Settle}
+use Rattle.eme_types.specs.declared.entry.Entry.TheVariants.{Call, Job, Task, Tick, Feed, Evict, Claim, Deliver, GiveUp, Publish, PassClear, WaitForKey, Settle}
 use Rattle.script_lang.specs.declared.script.Line.{Line}
 use Rattle.script_lang.specs.declared.script.Action.{Action}
-use Rattle.script_lang.specs.declared.script.Action.TheVariants.{Ask, Feed as FeedAction, Clock, Settle as SettleAction}
+use Rattle.script_lang.specs.declared.script.Action.TheVariants.{Ask, Feed as FeedAction, Clock, Evict as EvictAction, Settle as SettleAction}
 use Rattle.output_order.specs.Lane.{line_of, asked, fed_by, asked_in}
 use Rattle.output_order.specs.Complete.{IsOfLine, feed_rest, implied}
 use Rattle.player_core.specs.Alone.{IsAlone}
@@ -26,6 +26,7 @@ abbrev feeds_by : Action → ℕ
 feeds_by (Ask call) = 0
 feeds_by FeedAction = 1
 feeds_by (Clock moment) = 0
+feeds_by (EvictAction label) = 0
 feeds_by SettleAction = 0
 
 -- the entries of these lines, where k feeds came before
@@ -56,6 +57,8 @@ entries_back fragments k (Tick line moment ∷ es) all feeds =
 entries_back fragments k (Feed line fragment ∷ es) all feeds =
     let here : fragment ≡ slice_get fragments k = feeds 0 fragment refl ∙ ap (slice_get fragments) (add-zero k) in
     entry_first fragments k (Feed line fragment) es (line_as line 0 FeedAction) (line_above line 0 FeedAction all.0) (ap (λ given. Feed line given) (sym here)) (entries_back fragments (k + 1) es all.1 (λ j given at. feeds (suc j) given at ∙ ap (slice_get fragments) (let same : k + suc j ≡ k + 1 + j = omega arith in same)))
+entries_back fragments k (Evict line label ∷ es) all feeds =
+    entry_first fragments k (Evict line label) es (line_as line 0 (EvictAction label)) (line_above line 0 (EvictAction label) all.0) refl (entries_back fragments (k + 0) es all.1 (feeds_moved fragments k (k + 0) es (sym (add-zero k)) feeds))
 entries_back fragments k (Claim worker track index session kid ∷ es) all feeds = absurd all.0
 entries_back fragments k (Deliver place verdict ∷ es) all feeds = absurd all.0
 entries_back fragments k (GiveUp place ∷ es) all feeds = absurd all.0

@@ -9,12 +9,12 @@ use Rattle.std.proofs.lemmas.List.Sums.{fold-append}
 use Rattle.eme_types.specs.declared.media.Fragment.{Fragment}
 use Rattle.eme_types.specs.declared.media.Media.{Media}
 use Rattle.eme_types.specs.declared.entry.Entry.{Entry}
-use Rattle.eme_types.specs.declared.entry.Entry.TheVariants.{Call, Job, Task, Tick, Feed, Claim, Deliver, GiveUp, Publish, PassClear, WaitForKey, Settle}
+use Rattle.eme_types.specs.declared.entry.Entry.TheVariants.{Call, Job, Task, Tick, Feed, Evict, Claim, Deliver, GiveUp, Publish, PassClear, WaitForKey, Settle}
 use Rattle.eme_types.specs.declared.limits.TheConstants.{MAX_LANES, MAX_MOMENT}
 use Rattle.eme_types.specs.Fed.{IsFed, are_distinct}
 use Rattle.script_lang.specs.declared.script.Line.{Line}
 use Rattle.script_lang.specs.declared.script.Action.{Action}
-use Rattle.script_lang.specs.declared.script.Action.TheVariants.{Ask, Feed as FeedAction, Clock, Settle as SettleAction}
+use Rattle.script_lang.specs.declared.script.Action.TheVariants.{Ask, Feed as FeedAction, Clock, Evict as EvictAction, Settle as SettleAction}
 use Rattle.script_lang.specs.Script.{IsScript, lane_fits, moment_fits, moment_after}
 use Rattle.cdm_state.specs.Run.{Run}
 use Rattle.cdm_state.specs.History.{world, IsLegal, AtRest, MayFeedNext}
@@ -43,12 +43,14 @@ ticks_back : (last number lane : ℕ) (action : Action) (given : Option Fragment
 ticks_back last number lane (Ask call) given = refl
 ticks_back last number lane FeedAction given = refl
 ticks_back last number lane (Clock moment) given = refl
+ticks_back last number lane (EvictAction label) given = refl
 ticks_back last number lane SettleAction given = refl
 
 fed_back : (media : Media) (left : List Fragment) (old new : Run) (number lane : ℕ) (action : Action) → IsTrue (lane_fits lane action) → Goes old new (entry_for number lane action (slice_get left 0)) → HasFed media left old → HasFed media (left_by left action) new
 fed_back media left old new number lane (Ask call) fits g fed = fed_kept media left old new (Call lane number call) g refl refl refl refl (ltb-true lane MAX_LANES fits) fed
 fed_back media left old new number lane FeedAction fits g fed = fed_more media left old new number g fed
 fed_back media left old new number lane (Clock moment) fits g fed = fed_kept media left old new (Tick number moment) g refl refl refl refl tt fed
+fed_back media left old new number lane (EvictAction label) fits g fed = fed_kept media left old new (Evict number label) g refl refl refl refl tt fed
 fed_back media left old new number lane SettleAction fits g fed = fed_kept media left old new (Settle number) g refl refl refl refl tt fed
 
 -- the tracks of a play are distinct
@@ -59,6 +61,7 @@ may_do : (r : Run) (now : ℕ) (action : Action) (given : Option Fragment) → M
 may_do r now (Ask call) given may none distinct is fits = tt
 may_do r now FeedAction given may none distinct is fits = may
 may_do r now (Clock moment) given may none distinct is fits = subst (λ n. n ≤ moment) (sym is) (leb-true now moment (both_true (nat_le now moment) (nat_le moment MAX_MOMENT) fits).0)
+may_do r now (EvictAction label) given may none distinct is fits = tt
 may_do r now SettleAction given may none distinct is fits = (none, distinct)
 
 -- what the next line needs is there
@@ -147,6 +150,7 @@ alone_worker Job a = tt
 alone_worker Task a = tt
 alone_worker (Tick line moment) a = tt
 alone_worker (Feed line fragment) a = tt
+alone_worker (Evict line label) a = tt
 alone_worker (Claim worker track index session kid) a = omega (arith, a)
 alone_worker (Deliver place verdict) a = tt
 alone_worker (GiveUp place) a = tt

@@ -6,7 +6,7 @@ use Rattle.std.proofs.lemmas.List.{take_all}
 use Rattle.std.proofs.lemmas.Bool.Decides.{eqb_tells}
 use Rattle.eme_types.specs.declared.kid.KeyBytes.{KeyBytes}
 use Rattle.eme_types.specs.declared.entry.Entry.{Entry}
-use Rattle.eme_types.specs.declared.entry.Entry.TheVariants.{Call, Job, Task, Tick, Feed, Claim, Deliver, GiveUp, Publish, PassClear, WaitForKey, Settle}
+use Rattle.eme_types.specs.declared.entry.Entry.TheVariants.{Call, Job, Task, Tick, Feed, Evict, Claim, Deliver, GiveUp, Publish, PassClear, WaitForKey, Settle}
 use Rattle.cdm_world.specs.In.{In}
 use Rattle.cdm_world.proofs.Members.{In_filter, In_either}
 use Rattle.key_sessions.specs.Keys.{held_key}
@@ -47,6 +47,7 @@ unended place Job is ends = ends
 unended place Task is ends = ends
 unended place (Tick line moment) is ends = ends
 unended place (Feed line fragment) is ends = ends
+unended place (Evict line label) is ends = ends
 unended place (Claim worker track index session kid) is ends = ends
 unended place (Deliver p verdict) is ends = ends
 unended place (GiveUp p) is ends = elim (eqb_tells p place) [ inl same ↦ absurd (let no = same.0 in cc) | inr other ↦ other.1 ends ]

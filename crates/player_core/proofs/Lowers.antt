@@ -9,7 +9,7 @@ use Rattle.eme_types.specs.declared.kid.KeyBytes.{KeyBytes}
 use Rattle.eme_types.specs.declared.sample.EncSample.{EncSample}
 use Rattle.eme_types.specs.declared.entry.Verdict.{Verdict}
 use Rattle.eme_types.specs.declared.entry.Entry.{Entry}
-use Rattle.eme_types.specs.declared.entry.Entry.TheVariants.{Call, Job, Task, Tick, Feed, Claim, Deliver, GiveUp, Publish, PassClear, WaitForKey, Settle}
+use Rattle.eme_types.specs.declared.entry.Entry.TheVariants.{Call, Job, Task, Tick, Feed, Evict, Claim, Deliver, GiveUp, Publish, PassClear, WaitForKey, Settle}
 use Rattle.eme_types.specs.declared.call.Event.TheVariants.{WaitingForKey}
 use Rattle.eme_types.specs.Fed.{are_distinct}
 use Rattle.task_queue.specs.declared.work.Task.TheVariants.{Fire}
@@ -213,6 +213,7 @@ step_lowers ids h Job distinct legal may step = job_lowers ids h may
 step_lowers ids h Task distinct legal may step = task_lowers ids h may
 step_lowers ids h (Tick line moment) distinct legal may step = absurd step
 step_lowers ids h (Feed line fragment) distinct legal may step = absurd step
+step_lowers ids h (Evict line label) distinct legal may step = absurd step
 step_lowers ids h (Claim worker track index session kid) distinct legal may step = claim_lowers ids h worker track index session kid distinct legal may
 step_lowers ids h (Deliver place verdict) distinct legal may step = let keeps = deliver_keeps ids h place verdict legal in omega (arith, keeps)
 step_lowers ids h (GiveUp place) distinct legal may step = absurd step

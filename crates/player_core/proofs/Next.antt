@@ -8,7 +8,7 @@ use Rattle.eme_types.specs.declared.sample.EncSample.{EncSample}
 use Rattle.eme_types.specs.declared.sample.Protect.{Protect}
 use Rattle.eme_types.specs.declared.kid.KeyBytes.{KeyBytes}
 use Rattle.eme_types.specs.declared.entry.Entry.{Entry}
-use Rattle.eme_types.specs.declared.entry.Entry.TheVariants.{Call, Job, Task, Tick, Feed, Claim, Deliver, GiveUp, Publish, PassClear, WaitForKey, Settle}
+use Rattle.eme_types.specs.declared.entry.Entry.TheVariants.{Call, Job, Task, Tick, Feed, Evict, Claim, Deliver, GiveUp, Publish, PassClear, WaitForKey, Settle}
 use Rattle.eme_types.specs.declared.entry.Verdict.{Verdict}
 use Rattle.eme_types.specs.declared.entry.Verdict.TheVariants.{Taken, Stale}
 use Rattle.key_sessions.specs.Keys.{pick}
@@ -22,13 +22,14 @@ use Rattle.output_order.specs.Lane.{asked}
 use Rattle.output_order.proofs.Sizes.{some_same}
 use Rattle.player_core.specs.Alone.{NoJob, NoTask, NoPublish, NoPass, NoClaim, PublishFirst, PassFirst, ClaimFirst, WaitFirst, InTurn}
 
--- the place of an entry's kind in the order; the calls, ticks and feeds of lines stand outside it
+-- the place of an entry's kind in the order; the calls, ticks, feeds and evictions of lines stand outside it
 abbrev pub kind : Entry → ℕ
 kind (Call lane line call) = 8
 kind Job = 1
 kind Task = 2
 kind (Tick line moment) = 8
 kind (Feed line fragment) = 8
+kind (Evict line label) = 8
 kind (Claim worker track index session kid) = 5
 kind (Deliver place verdict) = 0
 kind (GiveUp place) = 9
@@ -76,6 +77,7 @@ refused ids h Job le turn = below_1 ids h turn
 refused ids h Task le turn = below_2 ids h turn.0 turn.1
 refused ids h (Tick line moment) le turn = absurd (omega (arith, le))
 refused ids h (Feed line fragment) le turn = absurd (omega (arith, le))
+refused ids h (Evict line label) le turn = absurd (omega (arith, le))
 refused ids h (Claim worker track index session kid) le turn = below_5 ids h turn.0 turn.1.jobs turn.1.tasks turn.1.publish turn.1.pass
 refused ids h (Deliver place verdict) le turn = below_none (NoneOf ids h)
 refused ids h (GiveUp place) le turn = absurd turn
@@ -91,6 +93,7 @@ unrefused ids h Job lt may none = may none
 unrefused ids h Task lt may none = may none
 unrefused ids h (Tick line moment) lt may none = absurd (omega (arith, lt))
 unrefused ids h (Feed line fragment) lt may none = absurd (omega (arith, lt))
+unrefused ids h (Evict line label) lt may none = absurd (omega (arith, lt))
 unrefused ids h (Claim worker track index session kid) lt may none = none track index session kid may
 unrefused ids h (Deliver place verdict) lt may none = none place may.0
 unrefused ids h (GiveUp place) lt may none = absurd (omega (arith, lt))
@@ -218,6 +221,7 @@ asked_or_step ids h Job turn = inr (refl, omega arith)
 asked_or_step ids h Task turn = inr (refl, omega arith)
 asked_or_step ids h (Tick line moment) turn = inl refl
 asked_or_step ids h (Feed line fragment) turn = inl refl
+asked_or_step ids h (Evict line label) turn = inl refl
 asked_or_step ids h (Claim worker track index session kid) turn = inr (refl, omega arith)
 asked_or_step ids h (Deliver place verdict) turn = inr (refl, omega arith)
 asked_or_step ids h (GiveUp place) turn = absurd turn

@@ -8,17 +8,17 @@ use Rattle.clearkey_json.specs.declared.key_set.KeySetFault.{KeySetFault}
 use Rattle.clearkey_json.specs.KeySet.{key_set}
 use Rattle.init_data.specs.declared.fault.InitFault.{InitFault}
 use Rattle.init_data.specs.InitData.{kids_of}
-use Rattle.eme_types.specs.declared.call.DomError.TheVariants.{TypeFault, Quota}
+use Rattle.eme_types.specs.declared.call.DomError.TheVariants.{InvalidState, TypeFault, Quota}
 use Rattle.eme_types.specs.declared.call.Event.TheVariants.{KeyStatuses, Message}
 use Rattle.eme_types.specs.declared.limits.TheConstants.{MAX_SESSION_KIDS}
 use Rattle.task_queue.specs.declared.work.Job.{Job}
 use Rattle.task_queue.specs.declared.work.Job.TheVariants.{Request, Update, Close, Remove}
 use Rattle.task_queue.specs.declared.work.Task.{Task}
-use Rattle.task_queue.specs.declared.work.Task.TheVariants.{Reject, RequestDone, UpdateDone, CloseDone, RemoveDone, Report, Fire, Resume}
+use Rattle.task_queue.specs.declared.work.Task.TheVariants.{Reject, RequestDone, UpdateDone, CloseDone, RemoveDone, Evicted, Report, Fire, Resume}
 use Rattle.key_statuses.specs.Table.{grant_all}
 use Rattle.key_sessions.specs.Machine.{SessionState, Machine, session_at}
 use Rattle.key_sessions.specs.Steps.{queue_task, with_session, unmoved, report, update_statuses}
-use Rattle.key_sessions.specs.Jobs.{request_error, request_job, update_job, with_set, is_changed_by, found, cleared, without_keys, run_job, take_job}
+use Rattle.key_sessions.specs.Jobs.{request_error, request_job, update_job, with_set, is_changed_by, found, cleared, without_keys, work_job, job_session, job_promise, is_evicted, run_job, take_job}
 use Rattle.key_sessions.specs.Tasks.{next_id, is_closed, made_callable, run_task, take_task}
 use Rattle.key_sessions.specs.World.{is_resume, resumes}
 use Rattle.clearkey_json.specs.Request.{request_text}
@@ -41,11 +41,26 @@ update_falls many n p (Ok set) m =
     grant_case (nat_lt MAX_SESSION_KIDS (length (grant_all s.keys set.keys))) (is_changed_by m.moment s (with_set set s)) many n p (with_set set) m
 update_falls many n p (Err fault) m = let is = pushed many m (Reject p TypeFault) in omega (arith, is)
 
+work_falls : (many : ℕ) (job : Job) (m : Machine) → queue_weight many (work_job job m) + 1 ≤ job_weight many job + queue_weight many m
+work_falls many (Request n kind init p) m = request_falls many n p (kids_of kind init) m
+work_falls many (Update n response p) m = update_falls many n p (key_set response) m
+work_falls many (Close n p) m = let is = pushed many (with_session n cleared m) (CloseDone n p) in omega (arith, is)
+work_falls many (Remove n p) m = let is = pushed many (with_session n without_keys m) (RemoveDone n p) in omega (arith, is)
+
+-- a job weighs more than a rejection
+least_job : (many : ℕ) (job : Job) → 2 ≤ job_weight many job
+least_job many (Request n kind init p) = omega arith
+least_job many (Update n response p) = omega arith
+least_job many (Close n p) = omega arith
+least_job many (Remove n p) = omega arith
+
+-- the job of an evicted session is refused
+guard_falls : (evicted : Bool) (many : ℕ) (job : Job) (m : Machine) → queue_weight many (if evicted then queue_task (Reject (job_promise job) InvalidState) m else work_job job m) + 1 ≤ job_weight many job + queue_weight many m
+guard_falls true many job m = let is = pushed many m (Reject (job_promise job) InvalidState) in let least = least_job many job in omega (arith, is, least)
+guard_falls false many job m = work_falls many job m
+
 run_falls : (many : ℕ) (job : Job) (m : Machine) → queue_weight many (run_job job m) + 1 ≤ job_weight many job + queue_weight many m
-run_falls many (Request n kind init p) m = request_falls many n p (kids_of kind init) m
-run_falls many (Update n response p) m = update_falls many n p (key_set response) m
-run_falls many (Close n p) m = let is = pushed many (with_session n cleared m) (CloseDone n p) in omega (arith, is)
-run_falls many (Remove n p) m = let is = pushed many (with_session n without_keys m) (RemoveDone n p) in omega (arith, is)
+run_falls many job m = guard_falls (is_evicted (session_at m.sessions (job_session job))) many job m
 
 -- the front job is taken
 pub job_falls : (many : ℕ) (jobs : List Job) (m : Machine) → m.jobs ≡ jobs → jobs ≢ [] → queue_weight many (take_job jobs m) + 1 ≤ queue_weight many m
@@ -80,6 +95,7 @@ done_falls many (UpdateDone n changed p) m = update_done changed where
   update_done false = omega arith
 done_falls many (CloseDone n p) m = let is = reported many n m in omega (arith, is)
 done_falls many (RemoveDone n p) m = let is = reported many n m in omega (arith, is)
+done_falls many (Evicted n) m = let is = reported many n m in omega (arith, is)
 done_falls many (Report n) m = let falls = report_case (is_closed (session_at m.sessions n)) many n m in omega (arith, falls)
 done_falls many (Fire event) m = omega arith
 done_falls many Resume m = omega arith

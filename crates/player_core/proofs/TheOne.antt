@@ -5,7 +5,7 @@ use Rattle.std.proofs.lemmas.List.{append_cancel_left, take-append-le, take_all}
 use Rattle.std.proofs.lemmas.List.Concat.{flat_map-append}
 use Rattle.eme_types.specs.declared.media.Media.{Media}
 use Rattle.eme_types.specs.declared.entry.Entry.{Entry}
-use Rattle.eme_types.specs.declared.entry.Entry.TheVariants.{Call, Job, Task, Tick, Feed, Claim, Deliver, GiveUp, Publish, PassClear, WaitForKey, Settle}
+use Rattle.eme_types.specs.declared.entry.Entry.TheVariants.{Call, Job, Task, Tick, Feed, Evict, Claim, Deliver, GiveUp, Publish, PassClear, WaitForKey, Settle}
 use Rattle.script_lang.specs.declared.script.Line.{Line}
 use Rattle.cdm_world.proofs.ItemsAt.{get_here}
 use Rattle.cdm_state.specs.History.{IsLegal}
@@ -33,6 +33,7 @@ leads ids g Job zs turn behind go = go refl
 leads ids g Task zs turn behind go = go refl
 leads ids g (Tick line moment) zs turn behind go = absurd (behind turn)
 leads ids g (Feed line fragment) zs turn behind go = absurd (behind turn)
+leads ids g (Evict line label) zs turn behind go = absurd (behind turn)
 leads ids g (Claim worker track index session kid) zs turn behind go = go refl
 leads ids g (Deliver place verdict) zs turn behind go = go refl
 leads ids g (GiveUp place) zs turn behind go = absurd turn

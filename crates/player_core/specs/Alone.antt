@@ -3,7 +3,7 @@ use Rattle.std.specs.Prelude.{ℕ, ◌≤◌, ◌≡◌, List, [], ◌∷◌, le
 use Rattle.std.specs.List.{list_all}
 use Rattle.eme_types.specs.declared.media.Media.{Media}
 use Rattle.eme_types.specs.declared.entry.Entry.{Entry}
-use Rattle.eme_types.specs.declared.entry.Entry.TheVariants.{Call, Job, Task, Tick, Feed, Claim, Deliver, GiveUp, Publish, PassClear, WaitForKey, Settle}
+use Rattle.eme_types.specs.declared.entry.Entry.TheVariants.{Call, Job, Task, Tick, Feed, Evict, Claim, Deliver, GiveUp, Publish, PassClear, WaitForKey, Settle}
 use Rattle.script_lang.specs.declared.script.Line.{Line}
 use Rattle.cdm_state.specs.History.{world, IsAt, IsLegal, MayClaim, MayPublish, MayPassClear, MayWait}
 use Rattle.cdm_state.specs.Contract.{ComesFirst}
@@ -67,8 +67,8 @@ pub record WaitFirst (ids : List ℕ) (h : List Entry) (track : ℕ) : Type 0 wh
 abbrev pub LastAsked : List Entry → Type 0
 LastAsked h = (e : Entry) → IsAt h (length h) e → asked e ≡ e ∷ []
 
--- entry e comes in turn after the history h. A claim is followed by its delivery at once. The call, tick or feed of a line has no step
--- before it. All else is of the settle loop: the first that may come of a job, a task, a publication, a clear sample, a claim and a wait,
+-- entry e comes in turn after the history h. A claim is followed by its delivery at once. The call, tick, feed or eviction of a line has
+-- no step before it. All else is of the settle loop: the first that may come of a job, a task, a publication, a clear sample, a claim and a wait,
 -- and the settle where none of these may
 abbrev pub InTurn : List ℕ → List Entry → Entry → Type 0
 InTurn ids h (Call lane line call) = LastAsked h
@@ -76,6 +76,7 @@ InTurn ids h Job = NoneWaits h
 InTurn ids h Task = NoneWaits h × NoJob ids h
 InTurn ids h (Tick line moment) = LastAsked h
 InTurn ids h (Feed line fragment) = LastAsked h
+InTurn ids h (Evict line label) = LastAsked h
 InTurn ids h (Claim worker track index session kid) = NoneWaits h × ClaimFirst ids h worker track index
 InTurn ids h (Deliver place verdict) = place ≡ length h
 InTurn ids h (GiveUp place) = ⊥

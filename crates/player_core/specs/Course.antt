@@ -8,7 +8,7 @@ use Rattle.eme_types.specs.declared.entry.Entry.TheVariants.{Settle}
 use Rattle.eme_types.specs.Fed.{IsFed, are_distinct, fragment_samples, fragment_bytes}
 use Rattle.script_lang.specs.declared.script.Line.{Line}
 use Rattle.script_lang.specs.declared.script.Action.{Action}
-use Rattle.script_lang.specs.declared.script.Action.TheVariants.{Ask, Feed as FeedAction, Clock, Settle as SettleAction}
+use Rattle.script_lang.specs.declared.script.Action.TheVariants.{Ask, Feed as FeedAction, Clock, Evict as EvictAction, Settle as SettleAction}
 use Rattle.cdm_state.specs.Run.{Run}
 use Rattle.cdm_state.specs.History.{world, AtRest, MayFeedNext, fed_samples, fed_bytes}
 use Rattle.cdm_state.specs.Moment.{last_moment}
@@ -53,6 +53,7 @@ abbrev pub MayGo : Run → Action → Option Fragment → Type 0
 MayGo r (Ask call) given = Unit {0}
 MayGo r FeedAction given = MayFeedNext r.tracks r.history given
 MayGo r (Clock moment) given = (world r.tracks r.history).machine.moment ≤ moment
+MayGo r (EvictAction label) given = Unit {0}
 MayGo r SettleAction given = NoneWaits r.history × IsTrue (are_distinct r.tracks)
 
 -- what a play has fed: the fragments of the media in order, but for those that are left, and none past the last

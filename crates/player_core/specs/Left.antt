@@ -8,7 +8,7 @@ use Rattle.eme_types.specs.declared.entry.Entry.TheVariants.{Claim, GiveUp, Publ
 use Rattle.task_queue.specs.declared.work.Job.{Job as QueuedJob}
 use Rattle.task_queue.specs.declared.work.Job.TheVariants.{Request, Update, Close, Remove}
 use Rattle.task_queue.specs.declared.work.Task.{Task as QueuedTask}
-use Rattle.task_queue.specs.declared.work.Task.TheVariants.{Reject, RequestDone, UpdateDone, CloseDone, RemoveDone, Report, Fire, Resume}
+use Rattle.task_queue.specs.declared.work.Task.TheVariants.{Reject, RequestDone, UpdateDone, CloseDone, RemoveDone, Evicted, Report, Fire, Resume}
 use Rattle.cdm_world.specs.Tracks.{TrackState}
 use Rattle.key_sessions.specs.Machine.{Machine}
 use Rattle.key_sessions.specs.Keys.{held_key}
@@ -60,6 +60,7 @@ task_weight many (RequestDone n kids p) = 2
 task_weight many (UpdateDone n changed p) = 2 * many + 3
 task_weight many (CloseDone n p) = 2 * many + 3
 task_weight many (RemoveDone n p) = 2 * many + 3
+task_weight many (Evicted n) = 2 * many + 3
 task_weight many (Report n) = 2 * many + 3
 task_weight many (Fire event) = 1
 task_weight many Resume = 2 * many + 1

@@ -58,6 +58,13 @@ fn play_line(
             cdm.tick(line.number, *moment)?;
             Ok(())
         }
+        Action::Evict(label) => {
+            let label = label.copy()?;
+            match cdm.evict(line.number, label) {
+                Ok(_) => Ok(()),
+                Err(back) => Err(back.error),
+            }
+        }
         Action::Settle => {
             settle_all(alloc, cdm, line.number)?;
             Ok(())

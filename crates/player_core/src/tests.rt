@@ -23,23 +23,52 @@ const TWO_TRACKS: &str =
 const LOG: &str =
     "1 call 0 2\n  promise 1 resolved\n2 call 0 3\n3 job\n4 task\n  promise 2 resolved\n5 task\n  event message 1 1 license-request {\"kids\":[\"AAECAwQFBgcICQoLDA0ODw\"],\"type\":\"temporary\"}\n6 settle 4\n7 call 0 5\n8 feed 6 1\n9 job\n10 task\n  statuses 1 000102030405060708090a0b0c0d0e0f=usable\n  promise 3 resolved\n11 task\n  event keystatuseschange 1\n12 task\n13 clear 1 0\n14 claim 0 2 0 1 000102030405060708090a0b0c0d0e0f\n15 deliver 14 taken\n16 publish 2 0 14\n17 settle 0\n";
 
+const SUMMARY: &str =
+    "entries 17\npromises 3 resolved 3 rejected 0\ntrack 1 samples 1 bytes 3 waiting no\ntrack 2 samples 1 bytes 16 waiting no\n";
+
+// The session of `ONE_SESSION` with a licence that has a start, and the log where the script ends before it.
+const LATER: &str =
+    "EMES 1\n0 create a temporary\n0 request a keyids text:{\"kids\":[\"AAECAwQFBgcICQoLDA0ODw\"]}\n0 settle\n0 update a text:{\"keys\":[{\"kty\":\"oct\",\"kid\":\"AAECAwQFBgcICQoLDA0ODw\",\"k\":\"K34VFiiu0qar9xWICc9PPA\"}],\"type\":\"temporary\",\"from\":500}\n0 feed\n0 settle\n";
+
+const LATER_LOG: &str =
+    "1 call 0 2\n  promise 1 resolved\n2 call 0 3\n3 job\n4 task\n  promise 2 resolved\n5 task\n  event message 1 1 license-request {\"kids\":[\"AAECAwQFBgcICQoLDA0ODw\"],\"type\":\"temporary\"}\n6 settle 4\n7 call 0 5\n8 feed 6 1\n9 job\n10 task\n  statuses 1 000102030405060708090a0b0c0d0e0f=usable-in-future\n  promise 3 resolved\n11 task\n  event keystatuseschange 1\n12 task\n13 wait 1\n14 task\n  event waitingforkey 1\n15 settle 7\n16 settle 0\n";
+
+// The same where the script goes on past the start.
+const IN_TIME: &str =
+    "EMES 1\n0 create a temporary\n0 request a keyids text:{\"kids\":[\"AAECAwQFBgcICQoLDA0ODw\"]}\n0 settle\n0 update a text:{\"keys\":[{\"kty\":\"oct\",\"kid\":\"AAECAwQFBgcICQoLDA0ODw\",\"k\":\"K34VFiiu0qar9xWICc9PPA\"}],\"type\":\"temporary\",\"from\":500}\n0 feed\n0 settle\n0 clock 500\n";
+
+const IN_TIME_LOG: &str =
+    "1 call 0 2\n  promise 1 resolved\n2 call 0 3\n3 job\n4 task\n  promise 2 resolved\n5 task\n  event message 1 1 license-request {\"kids\":[\"AAECAwQFBgcICQoLDA0ODw\"],\"type\":\"temporary\"}\n6 settle 4\n7 call 0 5\n8 feed 6 1\n9 job\n10 task\n  statuses 1 000102030405060708090a0b0c0d0e0f=usable-in-future\n  promise 3 resolved\n11 task\n  event keystatuseschange 1\n12 task\n13 wait 1\n14 task\n  event waitingforkey 1\n15 settle 7\n16 tick 8 500\n17 task\n  statuses 1 000102030405060708090a0b0c0d0e0f=usable\n18 task\n  event keystatuseschange 1\n19 task\n20 claim 0 1 0 1 000102030405060708090a0b0c0d0e0f\n21 deliver 20 taken\n22 publish 1 0 20\n23 settle 0\n";
+
+// A session that is evicted, and then asked to close.
+const EVICTED: &str =
+    "EMES 1\n0 create a temporary\n0 request a keyids text:{\"kids\":[\"AAECAwQFBgcICQoLDA0ODw\"]}\n0 settle\n0 update a text:{\"keys\":[{\"kty\":\"oct\",\"kid\":\"AAECAwQFBgcICQoLDA0ODw\",\"k\":\"K34VFiiu0qar9xWICc9PPA\"}],\"type\":\"temporary\"}\n0 settle\n0 evict a\n0 close a\n";
+
+const EVICTED_LOG: &str =
+    "1 call 0 2\n  promise 1 resolved\n2 call 0 3\n3 job\n4 task\n  promise 2 resolved\n5 task\n  event message 1 1 license-request {\"kids\":[\"AAECAwQFBgcICQoLDA0ODw\"],\"type\":\"temporary\"}\n6 settle 4\n7 call 0 5\n8 job\n9 task\n  statuses 1 000102030405060708090a0b0c0d0e0f=usable\n  promise 3 resolved\n10 task\n  event keystatuseschange 1\n11 task\n12 settle 6\n13 evict 7\n14 call 0 8\n  promise 4 resolved\n15 task\n  statuses 1\n  closed 1 resource-evicted\n16 task\n  event keystatuseschange 1\n17 task\n18 settle 0\n";
+
 const OPENED: [u8; 16] = [
     0x6b, 0xc1, 0xbe, 0xe2, 0x2e, 0x40, 0x9f, 0x96, 0xe9, 0x3d, 0x7e, 0x11, 0x73, 0x93, 0x17, 0x2a,
 ];
 
-fn tells(rt: &impl Abort, alloc: Global, cdm: &Cdm) -> Result<(), Fail> {
-    let log = log_text(alloc, cdm)?;
-    assert_eq!(rt; log.as_slice(), LOG.as_bytes());
-    let summary = summary_text(alloc, cdm)?;
-    assert_eq!(rt;
-        summary.as_slice(),
-        b"entries 17\npromises 3 resolved 3 rejected 0\ntrack 1 samples 1 bytes 3 waiting no\ntrack 2 samples 1 bytes 16 waiting no\n".as_slice()
-    );
-    let passed = track_bytes(alloc, cdm, 1)?;
-    assert_eq!(rt; passed.as_slice(), b"abc".as_slice());
-    let opened = track_bytes(alloc, cdm, 2)?;
-    assert_eq!(rt; opened.as_slice(), OPENED.as_slice());
+fn says(rt: &impl Abort, alloc: Global, cdm: &Cdm, log: &str, summary: &str) -> Result<(), Fail> {
+    let told = log_text(alloc, cdm)?;
+    assert_eq!(rt; told.as_slice(), log.as_bytes());
+    let told = summary_text(alloc, cdm)?;
+    assert_eq!(rt; told.as_slice(), summary.as_bytes());
     Ok(())
+}
+
+fn gives(rt: &impl Abort, alloc: Global, cdm: &Cdm, track: u32, clear: &[u8]) -> Result<(), Fail> {
+    let passed = track_bytes(alloc, cdm, track)?;
+    assert_eq!(rt; passed.as_slice(), clear);
+    Ok(())
+}
+
+fn tells(rt: &impl Abort, alloc: Global, cdm: &Cdm) -> Result<(), Fail> {
+    says(rt, alloc, cdm, LOG, SUMMARY)?;
+    gives(rt, alloc, cdm, 1, b"abc".as_slice())?;
+    gives(rt, alloc, cdm, 2, OPENED.as_slice())
 }
 
 #[test]
@@ -58,6 +87,41 @@ fn one_lane_without_workers_is_played_alone(rt: HostRuntime) -> Result<(), Fail>
     let media = parse_media(alloc, TWO_TRACKS.as_bytes())?;
     let cdm = play(&rt, alloc, &script, media, 0, &FreeGate)?;
     tells(&rt, alloc, &cdm)
+}
+
+#[test]
+fn keys_are_usable_later_and_a_session_is_evicted(rt: HostRuntime) -> Result<(), Fail> {
+    let alloc = rt.alloc();
+    for (script, media, log, summary, opened) in [
+        (
+            LATER,
+            ONE_SAMPLE,
+            LATER_LOG,
+            "entries 16\npromises 3 resolved 3 rejected 0\ntrack 1 samples 0 bytes 0 waiting later\n",
+            b"".as_slice(),
+        ),
+        (
+            IN_TIME,
+            ONE_SAMPLE,
+            IN_TIME_LOG,
+            "entries 23\npromises 3 resolved 3 rejected 0\ntrack 1 samples 1 bytes 16 waiting no\n",
+            OPENED.as_slice(),
+        ),
+        (
+            EVICTED,
+            "SMPL 1\n",
+            EVICTED_LOG,
+            "entries 18\npromises 4 resolved 4 rejected 0\n",
+            b"".as_slice(),
+        ),
+    ] {
+        let script = read_script(alloc, script.as_bytes())?;
+        let media = parse_media(alloc, media.as_bytes())?;
+        let cdm = play(&rt, alloc, &script, media, 0, &FreeGate)?;
+        says(&rt, alloc, &cdm, log, summary)?;
+        gives(&rt, alloc, &cdm, 1, opened)?;
+    }
+    Ok(())
 }
 
 fn inspects(rt: &impl Abort, alloc: Global, list: &str, text: &str) -> Result<(), Fail> {
