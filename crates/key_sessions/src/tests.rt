@@ -478,6 +478,17 @@ job -> nothing
 evict c -> false; nothing
 task -> statuses 3; closed 3 ClosedByApplication; promise 12 resolved
 evict c -> false; nothing
+tasks -> nothing
+create d temporary -> promise 13 resolved
+request d keyids {"kids":["AQ"]} -> nothing
+job -> nothing
+task -> promise 14 resolved
+tasks -> message 4 3 {"kids":["AQ"],"type":"temporary"}
+keys d - AQ:K34VFiiu0qar9xWICc9PPA -> nothing
+job -> nothing
+evict d -> true; lost 4 .1
+task -> statuses 4; promise 15 resolved
+task -> statuses 4; closed 4 ResourceEvicted
 "#;
 
 const EMPTY: &[u8] = br#"
