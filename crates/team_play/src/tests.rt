@@ -169,7 +169,7 @@ fn ends_held_claims<R: Threads + Wait + Sync>(rt: &R, alloc: Global) -> Result<b
     let media = parse_media(alloc, BEHIND_A_HEAD.as_bytes())?;
     let cdm = play_together(rt, alloc, &script, media, 2, &Delay)?;
     let nothing = track_bytes(alloc, &cdm, 1)?;
-    if !nothing.is_empty() {
+    if nothing.len() > 0 {
         return Err(Fail::from("a sample came out"));
     }
     Ok(late_behind_eviction(cdm.history()) > 0)
