@@ -10,7 +10,7 @@ use Rattle.eme_types.specs.declared.entry.Entry.TheVariants.{Call, Job, Task, Ti
 use Rattle.script_lang.specs.declared.script.Line.{Line}
 use Rattle.script_lang.specs.declared.script.Action.{Action}
 use Rattle.script_lang.specs.declared.script.Action.TheVariants.{Ask, Feed as FeedAction, Clock, Evict as EvictAction, Settle as SettleAction}
-use Rattle.output_order.specs.Lane.{line_of, asked, fed_by, asked_in}
+use Rattle.output_order.specs.Lane.{line_of, fed_by, asked_in}
 use Rattle.output_order.specs.Complete.{IsOfLine, feed_rest, implied}
 use Rattle.player_core.specs.Alone.{IsAlone}
 use Rattle.play_parts.specs.Asks.{entry_of}

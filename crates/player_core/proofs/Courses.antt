@@ -1,10 +1,9 @@
 -- A play, one line on, and what follows the last line.
-use Rattle.std.proofs.Common.{zero, suc, ◌≡◌, ◌≢◌, ℕ, ◌+◌, ◌≤◌, ◌<◌, Bool, false, IsTrue, List, [], ◌∷◌, ◌++◌, Option, Some, length, take, drop, slice_get, if◌then◌else◌, refl, ap, ◌∙◌, sym, subst, append-nil, append_assoc, arith}
+use Rattle.std.proofs.Common.{zero, suc, ◌≡◌, ◌≢◌, ℕ, ◌+◌, ◌≤◌, ◌<◌, IsTrue, List, [], ◌∷◌, ◌++◌, Option, Some, length, take, drop, slice_get, refl, ap, ◌∙◌, sym, subst, append-nil, append_assoc, arith}
 use Rattle.std.specs.List.{fold, AllByRecursion}
-use Rattle.std.specs.Prelude.{◌==◌, nat_le}
-use Rattle.std.proofs.lemmas.Bool.{leb-true, ltb-true, eqb-true}
-use Rattle.std.proofs.Math.Dec.{eqb-suc-zero}
-use Rattle.std.proofs.lemmas.List.{take_all, length-drop}
+use Rattle.std.specs.Prelude.{nat_le}
+use Rattle.std.proofs.lemmas.Bool.{leb-true, ltb-true}
+use Rattle.std.proofs.lemmas.List.{take_all}
 use Rattle.std.proofs.lemmas.List.Sums.{fold-append}
 use Rattle.eme_types.specs.declared.media.Fragment.{Fragment}
 use Rattle.eme_types.specs.declared.media.Media.{Media}
@@ -21,15 +20,15 @@ use Rattle.cdm_state.specs.History.{world, IsLegal, AtRest, MayFeedNext}
 use Rattle.cdm_state.specs.Law.{MomentIsOfLastTick}
 use Rattle.cdm_state.specs.Moment.{tick_to}
 use Rattle.cdm_state.specs.Progress.{NoneWaits}
-use Rattle.output_order.specs.Lane.{line_with, line_of, lines_in, lane, asked, asked_in, feeds_in}
-use Rattle.output_order.specs.Complete.{HasLane, IsOfLine, feed_rest, implied, IsComplete}
+use Rattle.output_order.specs.Lane.{lines_in, lane, asked_in, feeds_in}
+use Rattle.output_order.specs.Complete.{IsOfLine, feed_rest, implied, IsComplete}
 use Rattle.output_order.specs.Staffed.{NamesWorker, times_given_up, IsStaffed}
 use Rattle.output_order.proofs.Sizes.{taken_more, some_same}
 use Rattle.player_core.specs.Alone.{AreInTurn, IsAlone}
 use Rattle.play_parts.specs.Asks.{entry_for, entry_of, IsOfLanes, left_by, moment_by, moment_of}
 use Rattle.play_parts.proofs.Reading.{all_append, both_true, feeds_asked}
 use Rattle.play_parts.proofs.Complete.{lanes_lane, none_left}
-use Rattle.play_parts.proofs.Scripts.{number_above_0, lane_fits_at, moment_fits_at, line_as, line_back, asked_back, above_back}
+use Rattle.play_parts.proofs.Scripts.{number_above_0, lane_fits_at, moment_fits_at, line_back, asked_back, above_back}
 use Rattle.player_core.specs.Course.{Goes, Settles, MayGo, HasFed, HasGone, HasFollowed}
 use Rattle.player_core.proofs.Added.{lines_added, asked_added, ticks_added, no_times_given_up}
 use Rattle.player_core.proofs.Feeding.{fed_kept, fed_more, may_feed}

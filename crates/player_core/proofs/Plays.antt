@@ -1,5 +1,5 @@
 -- The play with no worker and one lane, and any other.
-use Rattle.std.proofs.Common.{◌≡◌, ℕ, Bool, true, false, ◌&&◌, Result, Ok, Err, List, refl, sym, subst, ◌∙◌}
+use Rattle.std.proofs.Common.{◌≡◌, ℕ, Bool, true, false, ◌&&◌, Result, Ok, Err, List, refl, sym, subst}
 use Rattle.std.specs.Prelude.{◌==◌, IfOk, IsTrue}
 use Rattle.std.proofs.lemmas.Bool.{eqb-true}
 use Rattle.eme_types.specs.declared.media.Media.{Media}

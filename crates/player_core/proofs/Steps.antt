@@ -1,8 +1,6 @@
 -- Steps, one after the other.
 use Rattle.std.proofs.Common.{zero, suc, ◌≡◌, ℕ, ◌+◌, ◌-◌, ◌<◌, List, [], ◌∷◌, ◌++◌, Some, length, slice_get, inl, inr, refl, ap, ◌∙◌, sym, subst, append_assoc, append-nil, length-append, arith}
 use Rattle.std.specs.Prelude.{◌⊎◌}
-use Rattle.std.specs.List.{AllByRecursion}
-use Rattle.std.proofs.lemmas.List.Sums.{fold-append}
 use Rattle.eme_types.specs.declared.entry.Entry.{Entry}
 use Rattle.eme_types.specs.declared.entry.Entry.TheVariants.{Claim, Deliver, Settle}
 use Rattle.eme_types.specs.declared.entry.Verdict.{Verdict}
@@ -10,8 +8,6 @@ use Rattle.eme_types.specs.declared.entry.Verdict.TheVariants.{Taken as TakenVer
 use Rattle.key_claims.specs.declared.claim.Delivered.{Delivered}
 use Rattle.key_claims.specs.declared.claim.Delivered.TheVariants.{Taken, Stale}
 use Rattle.cdm_state.specs.Contract.{Delivers}
-use Rattle.key_sessions.specs.World.{empty_world}
-use Rattle.cdm_state.specs.After.{after_entry}
 use Rattle.cdm_state.specs.History.{world, AtRest, Undelivered, MayClaim, MayPublish, MayPassClear, MayWait}
 use Rattle.cdm_state.specs.Run.{Run, with_entry}
 use Rattle.cdm_state.specs.Progress.{NoneWaits, NothingToDo}
