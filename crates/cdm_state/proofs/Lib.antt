@@ -29,3 +29,4 @@ pub mod StillOpen
 pub mod OfSamples
 pub mod PastTicks
 pub mod Quiet
+pub mod Fragments

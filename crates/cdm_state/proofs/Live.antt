@@ -23,6 +23,7 @@ use Rattle.key_claims.specs.Kept.{Once}
 use Rattle.cdm_state.specs.History.{world, IsAt, Ends, Spends, HoldsFor, Live, LiveAs, Undelivered}
 use Rattle.cdm_state.proofs.Places.{either_place, slice_get_left, slice_get_last, IsPlain}
 use Rattle.cdm_state.proofs.Plain.{some_alone}
+use Rattle.key_claims.proofs.Sound.{once_filter}
 use Rattle.cdm_world.proofs.Members.{In_filter}
 
 slice_get_back : (h : List Entry) (e x : Entry) (n : ℕ) → n < length h → slice_get (h ++ e ∷ []) n ≡ Some x → slice_get h n ≡ Some x
@@ -120,17 +121,6 @@ In-filter p (y ∷ ys) x (inr at) is = go (p y) (In-filter p ys x at is) where
   go : (b : Bool) → In (filter p ys) x → In (if b then y ∷ filter p ys else filter p ys) x
   go true m = inr m
   go false m = m
-
--- no place stands twice among some of them
-pub In-filtered : {A : Type 0} (p : A → Bool) (xs : List A) (x : A) → In (filter p xs) x → In xs x × (p x ≡ true)
-In-filtered p xs x there = In_filter p xs x there
-
-pub once_filter : (p : ClaimState → Bool) (xs : List ClaimState) → Once xs → Once (filter p xs)
-once_filter p [] once = tt
-once_filter p (x ∷ xs) once = go (p x) (once_filter p xs once.1) where
-  go : (b : Bool) → Once (filter p xs) → Once (if b then x ∷ filter p xs else filter p xs)
-  go true rest = ((λ t there. once.0 t (In_filter p xs t there).0), rest)
-  go false rest = rest
 
 pub key_is : (held : Option KeyBytes) (key : KeyBytes) → is_key held key ≡ true → held ≡ Some key
 key_is None key e = absurd cc

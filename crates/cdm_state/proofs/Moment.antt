@@ -30,7 +30,7 @@ use Rattle.cdm_state.specs.Moment.{tick_to}
 use Rattle.cdm_state.specs.Law.{MomentIsOfLastTick}
 use Rattle.cdm_state.specs.History.{world}
 
-abbrev moment_in : Done → ℕ
+abbrev pub moment_in : Done → ℕ
 moment_in d = d.machine.moment
 
 either : (b : Bool) (x y : Done) (n : ℕ) → moment_in x ≡ n → moment_in y ≡ n → moment_in (if b then x else y) ≡ n
@@ -72,7 +72,7 @@ remove_keeps : (m : Machine) (o : Option (ℕ × SessionState)) → moment_in (r
 remove_keeps m None = refl
 remove_keeps m (Some (n, s)) = remove_or_keeps n (state_fault s) m
 
-call_keeps : (call : AppCall) (m : Machine) → moment_in (after_call call m) ≡ m.moment
+pub call_keeps : (call : AppCall) (m : Machine) → moment_in (after_call call m) ≡ m.moment
 call_keeps (Access name list) m = refl
 call_keeps (Create label kind) m = create_keeps label kind m
 call_keeps (Request label kind init) m = request_keeps kind init m (find_label m label)
@@ -98,7 +98,7 @@ work_keeps (RemoveJob n p) m = refl
 run_job_keeps : (job : QueuedJob) (m : Machine) → (run_job job m).moment ≡ m.moment
 run_job_keeps job m = either_machine (is_evicted (session_at m.sessions (job_session job))) _ _ m.moment refl (work_keeps job m)
 
-job_keeps : (jobs : List QueuedJob) (m : Machine) → (take_job jobs m).moment ≡ m.moment
+pub job_keeps : (jobs : List QueuedJob) (m : Machine) → (take_job jobs m).moment ≡ m.moment
 job_keeps [] m = refl
 job_keeps (job ∷ jobs) m = run_job_keeps job _
 
@@ -117,11 +117,11 @@ run_task_keeps (Report n) m = either (is_closed (session_at m.sessions n)) _ _ m
 run_task_keeps (Fire event) m = refl
 run_task_keeps Resume m = refl
 
-evict_keeps : (m : Machine) (o : Option (ℕ × SessionState)) → (evict_on m o).moment ≡ m.moment
+pub evict_keeps : (m : Machine) (o : Option (ℕ × SessionState)) → (evict_on m o).moment ≡ m.moment
 evict_keeps m None = refl
 evict_keeps m (Some (n, s)) = either_machine (is_ending s) _ _ m.moment refl refl
 
-task_keeps : (tasks : List Queued) (m : Machine) → moment_in (take_task tasks m) ≡ m.moment
+pub task_keeps : (tasks : List Queued) (m : Machine) → moment_in (take_task tasks m) ≡ m.moment
 task_keeps [] m = refl
 task_keeps (task ∷ tasks) m = run_task_keeps task _
 

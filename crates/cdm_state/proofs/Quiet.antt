@@ -18,7 +18,7 @@ use Rattle.cdm_state.proofs.OfSamples.{live_of_sample}
 use Rattle.cdm_state.proofs.Plain.{some_alone}
 
 -- where all tracks are so, the one that an id finds is
-all_found : (P : TrackState → Type 0) (ts : List TrackState) (id : ℕ) (t : TrackState) → All P ts → find_track ts id ≡ Some t → P t
+pub all_found : (P : TrackState → Type 0) (ts : List TrackState) (id : ℕ) (t : TrackState) → All P ts → find_track ts id ≡ Some t → P t
 all_found P [] id t all found = absurd cc
 all_found P (s ∷ ts) id t all found = go (eqb s.id id) found (all_found P ts id t (λ k d lt. all (suc k) d (omega (arith, lt)))) where
   go : (b : Bool) → (if b then Some s else find_track ts id) ≡ Some t → (find_track ts id ≡ Some t → P t) → P t

@@ -12,6 +12,8 @@ ghost use Rattle.cdm_state.specs.Contract.{IsOpen};
 ghost use Rattle.cdm_state.specs.Does.{CallDoes, JobDoes, TaskDoes, TickDoes, FeedDoes, EvictDoes, ClaimDoes, DeliverDoes, GiveUpDoes, PublishDoes, PassClearDoes, WaitDoes, SettleDoes};
 ghost use Rattle.cdm_state.specs.Run.{Run};
 ghost use Rattle.cdm_state.specs.Later.{waits_later, protect_later};
+ghost use Rattle.cdm_state.specs.Feeds.{fragments_fed};
+ghost use Rattle.std.specs.List.{sum_by};
 ghost use Rattle.key_sessions.specs.Keys.{pick};
 ghost use Rattle.key_claims.specs.Changes.{resumed_one};
 ghost use Rattle.key_claims.specs.Choice.{NoWork};
@@ -116,6 +118,13 @@ impl Cdm {
         ensures { result.now ≡ self.now.tracks }
     {
         &self.ids
+    }
+
+    /// How many fragments were fed.
+    pub fn fragments(&self) -> u64
+        ensures { result ≡ sum_by fragments_fed self.now.history }
+    {
+        self.parts.chronicle.fragments()
     }
 
     /// What the entry at a place, from 1, did that the application can see.

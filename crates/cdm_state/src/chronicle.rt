@@ -1,18 +1,23 @@
 // A history with what each of its entries did, in one room.
 ghost use Rattle.std.specs.Prelude.{◌≡◌, ◌≤◌, ◌<◌, ◌+◌, [], ◌∷◌, ◌++◌, OnOk, OnErr, length};
+ghost use Rattle.std.specs.List.{sum_by};
+ghost use Rattle.cdm_state.specs.Feeds.{fragments_fed};
 
+use crate::feed::fragments_fed;
 use eme_types::{Effects, Entry};
 use std::alloc::{AllocError, Global};
 use std::marker::Model;
 use task_queue::Log;
 
-/// The entries of a history, the effects of each, and how many entries can be appended without taking memory.
+/// The entries of a history, the effects of each, how many entries can be appended without taking memory, and how many fragments were
+/// fed.
 #[derive(Drop)]
 pub struct Chronicle {
     alloc: Global,
     entries: Log<Entry>,
     effects: Log<Effects>,
     room: usize,
+    fragments: u64,
 }
 
 impl Model for Chronicle {
@@ -36,6 +41,7 @@ impl Chronicle {
             entries: Log::new(alloc),
             effects: Log::new(alloc),
             room: 0,
+            fragments: 0,
         }
     }
 
@@ -51,6 +57,13 @@ impl Chronicle {
         ensures { result.now ≡ self.now.effects }
     {
         self.effects.as_slice()
+    }
+
+    /// How many fragments the entries feed.
+    pub fn fragments(&self) -> u64
+        ensures { result ≡ sum_by fragments_fed self.now.entries }
+    {
+        self.fragments
     }
 
     /// The place, from 1, of the entry that is appended next.
@@ -83,8 +96,11 @@ impl Chronicle {
         ensures effects { self.new.effects ≡ self.old.effects ++ did ∷ [] }
         ensures room { self.old.room ≤ self.new.room + 1 }
     {
+        let fed = fragments_fed(&entry);
+        let _place = self.entries.next_place();
         self.entries.put(entry);
         self.effects.put(did);
+        self.fragments += fed;
         self.room -= 1;
     }
 

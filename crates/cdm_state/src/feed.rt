@@ -3,9 +3,9 @@ ghost use Rattle.std.specs.Prelude.{◌≡◌, ◌≤◌, map, length, IfOk, IfS
 ghost use Rattle.std.specs.List.{sum_by};
 ghost use Rattle.eme_types.specs.Fed.{part_samples};
 ghost use Rattle.eme_types.specs.declared.call.Event.TheVariants.{Encrypted};
-ghost use Rattle.cdm_state.specs.Feeds.{parts_in, inits_in, fired_all};
+ghost use Rattle.cdm_state.specs.Feeds.{parts_in, inits_in, fired_all, fragments_fed};
 
-use eme_types::{Copies, Event, Fragment, InitData, TrackPart};
+use eme_types::{Copies, Entry, Event, Fragment, InitData, TrackPart};
 use key_sessions::Sessions;
 use std::alloc::{AllocError, Global};
 
@@ -13,6 +13,20 @@ use std::alloc::{AllocError, Global};
 pub struct News {
     pub samples: usize,
     pub events: Vec<Event>,
+}
+
+/// How many fragments an entry feeds.
+pub fn fragments_fed(entry: &Entry) -> u64
+    ensures value { result ≡ fragments_fed entry.now }
+    ensures one { result ≤ 1 }
+{
+    match entry {
+        Entry::Feed {
+            fragment: Some(_),
+            ..
+        } => 1,
+        _ => 0,
+    }
 }
 
 /// The number of samples, if it can be counted.

@@ -11,6 +11,7 @@ mod parts;
 mod tests;
 
 pub use cdm::{CallBack, Cdm, EvictBack, FeedBack, SettleFault};
+pub use feed::fragments_fed;
 pub use key_claims::{Claim, ClaimFault, Delivered, NotReady, NotWaiting, Published};
 pub use key_sessions::StepFault;
 pub use law::{

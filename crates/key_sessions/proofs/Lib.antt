@@ -1,6 +1,10 @@
 pub mod SessionLists
 pub mod Reported
 pub mod Held
+pub mod Placed
+pub mod Following
+pub mod HeldBy
+pub mod OneKey
 pub mod EndedKeys
 pub mod LostKeys
 pub mod Evictions

@@ -42,15 +42,18 @@ use Rattle.key_sessions.specs.Evict.{evict_numbered, evict_on, after_evict}
 use Rattle.key_sessions.specs.Tasks.{run_task, take_task, after_task, is_closed, request_done, next_id, reports_from, after_tick}
 use Rattle.key_sessions.proofs.SessionLists.{length-change_session}
 use Rattle.key_sessions.specs.Queued.{IsNumber, IsJobOf, AreThere}
+use Rattle.key_sessions.specs.Holders.{holders_from}
 use Rattle.key_sessions.proofs.Held.{held_alike, held_more}
+use Rattle.key_sessions.proofs.HeldBy.{holders_alike, holders_added}
 use Rattle.key_sessions.proofs.There.{more_jobs, last_job, there_more, IsKnown, label_known}
 use Rattle.key_sessions.proofs.Owed.{one_same, times_one, times_more, jobs_more, tasks_more, pending_within, pending_done, pending_new, pending_settled, length-settle_in, reports_owe}
 
--- sessions that keep every usable key, are no fewer, and stay at most 64
+-- sessions that keep every key, are no fewer, and stay at most 64
 record Keeps (ss ss' : List SessionState) : Type 0 where
   held : (moment n : ℕ) (kid : List ℕ) (key : KeyBytes) → held_in moment ss n kid ≡ Some key → held_in moment ss' n kid ≡ Some key
   few : length ss ≤ MAX_SESSIONS → length ss' ≤ MAX_SESSIONS
   more : length ss ≤ length ss'
+  holders : (kid : List ℕ) → holders_from 1 ss' kid ≡ holders_from 1 ss kid
 
 -- what a call does, and what it leaves
 pub record Called (m : Machine) (d : Done) : Type 0 where
@@ -58,15 +61,16 @@ pub record Called (m : Machine) (d : Done) : Type 0 where
   pub held : (n : ℕ) (kid : List ℕ) (key : KeyBytes) → held_key m n kid ≡ Some key → held_key d.machine n kid ≡ Some key
   pub few : length m.sessions ≤ MAX_SESSIONS → length d.machine.sessions ≤ MAX_SESSIONS
   pub there : AreThere m → AreThere d.machine
+  pub holders : (kid : List ℕ) → holders_from 1 d.machine.sessions kid ≡ holders_from 1 m.sessions kid
 
 as_were : (ss : List SessionState) → Keeps ss ss
-as_were ss = record { held = λ moment n kid key at. at; few = λ le. le; more = omega arith }
+as_were ss = record { held = λ moment n kid key at. at; few = λ le. le; more = omega arith; holders = λ kid. refl }
 
-changed_one : (ss : List SessionState) (n : ℕ) (f : SessionState → SessionState) → ((moment : ℕ) (s : SessionState) (kid : List ℕ) → usable_key moment (f s) kid ≡ usable_key moment s kid) → Keeps ss (change_session ss n f)
-changed_one ss n f same = record { held = λ moment k kid key at. held_alike moment ss n k f kid (λ s. same moment s kid) ∙ at; few = λ le. rw (length-change_session ss n f) le; more = rw (length-change_session ss n f) (omega arith) }
+changed_one : (ss : List SessionState) (n : ℕ) (f : SessionState → SessionState) → ((moment : ℕ) (s : SessionState) (kid : List ℕ) → usable_key moment (f s) kid ≡ usable_key moment s kid) → ((s : SessionState) → (f s).keys ≡ s.keys) → Keeps ss (change_session ss n f)
+changed_one ss n f same alike = record { held = λ moment k kid key at. held_alike moment ss n k f kid (λ s. same moment s kid) ∙ at; few = λ le. rw (length-change_session ss n f) le; more = rw (length-change_session ss n f) (omega arith); holders = λ kid. holders_alike ss n f kid alike }
 
-one_more : (ss : List SessionState) (s : SessionState) → length ss < MAX_SESSIONS → Keeps ss (ss ++ s ∷ [])
-one_more ss s lt = record { held = λ moment k kid key at. held_more moment ss s k kid key at; few = λ le. omega (arith, lt, length-append ss (s ∷ [])); more = omega (arith, length-append ss (s ∷ [])) }
+one_more : (ss : List SessionState) (s : SessionState) → length ss < MAX_SESSIONS → s.keys ≡ [] → Keeps ss (ss ++ s ∷ [])
+one_more ss s lt none = record { held = λ moment k kid key at. held_more moment ss s k kid key at; few = λ le. omega (arith, lt, length-append ss (s ∷ [])); more = omega (arith, length-append ss (s ∷ [])); holders = λ kid. holders_added ss s kid none }
 
 now : (m : Machine) (ss : List SessionState) (how : Settled) → Keeps m.sessions ss → Called m (answer_now how (record m { sessions = ss }))
 now m ss how keeps = record {
@@ -78,6 +82,7 @@ now m ss how keeps = record {
   held = λ n kid key at. keeps.held m.moment n kid key at;
   few = keeps.few;
   there = λ there. there_more m (answer_now how (record m { sessions = ss })).machine there keeps.more (λ job at. inl at) (λ task at. inl at);
+  holders = keeps.holders;
 }
 
 later : (m : Machine) (ss : List SessionState) (job : ℕ → Job) → ((p q : ℕ) → job_owes p (job q) ≡ one_if q p) → ((q : ℕ) → IsJobOf (length m.sessions) (job q)) → Keeps m.sessions ss → Called m (answer_later job (record m { sessions = ss }))
@@ -90,6 +95,7 @@ later m ss job names of keeps = record {
   held = λ n kid key at. keeps.held m.moment n kid key at;
   few = keeps.few;
   there = λ there. there_more m (answer_later job (record m { sessions = ss })).machine there keeps.more (last_job (length ss) m.jobs (job (length m.promises + 1)) (more_jobs (length m.sessions) (length ss) (job (length m.promises + 1)) keeps.more (of (length m.promises + 1)))) (λ task at. inl at);
+  holders = keeps.holders;
 }
 
 plain : (m : Machine) (how : Settled) → Called m (answer_now how m)
@@ -100,7 +106,7 @@ choose m true x y p q = p
 choose m false x y p q = q
 
 called_added : (m : Machine) (label : List ℕ) (b : Bool) → nat_lt (length m.sessions) MAX_SESSIONS ≡ b → Called m (if b then answer_now Resolved (add_session label m) else reject_now Quota m)
-called_added m label true e = now m (add_session label m).sessions Resolved (one_more m.sessions (new_session label) ((Decides-ltb (length m.sessions) MAX_SESSIONS).0 e))
+called_added m label true e = now m (add_session label m).sessions Resolved (one_more m.sessions (new_session label) ((Decides-ltb (length m.sessions) MAX_SESSIONS).0 e) refl)
 called_added m label false e = plain m (Rejected Quota)
 
 called_create : (m : Machine) (label kind : List ℕ) → Called m (create_call label kind m)
@@ -112,7 +118,7 @@ called_started m ss n init (Ok kind) of keeps = later m ss (λ p. RequestJob n k
 
 called_request : (m : Machine) (kind init : List ℕ) (o : Option (ℕ × SessionState)) → IsKnown (length m.sessions) o → Called m (request_on kind init m o)
 called_request m kind init None known = plain m (Rejected UnknownLabel)
-called_request m kind init (Some (n, s)) known = choose m (is_ending s) _ _ (plain m (Rejected InvalidState)) (choose m s.uninitialized _ _ (called_started m (change_session m.sessions n start_request) n init (request_kind kind init) known (changed_one m.sessions n start_request (λ moment s kid. refl))) (plain m (Rejected InvalidState)))
+called_request m kind init (Some (n, s)) known = choose m (is_ending s) _ _ (plain m (Rejected InvalidState)) (choose m s.uninitialized _ _ (called_started m (change_session m.sessions n start_request) n init (request_kind kind init) known (changed_one m.sessions n start_request (λ moment s kid. refl) (λ s. refl))) (plain m (Rejected InvalidState)))
 
 called_update_or : (m : Machine) (n : ℕ) (response : List ℕ) (o : Option DomError) → IsNumber (length m.sessions) n → Called m (update_or n response o m)
 called_update_or m n response (Some error) of = plain m (Rejected error)
@@ -124,7 +130,7 @@ called_update m response (Some (n, s)) known = called_update_or m n response (or
 
 called_close : (m : Machine) (o : Option (ℕ × SessionState)) → IsKnown (length m.sessions) o → Called m (close_on m o)
 called_close m None known = plain m (Rejected UnknownLabel)
-called_close m (Some (n, s)) known = choose m (is_ending s) _ _ (plain m Resolved) (choose m s.callable _ _ (later m (change_session m.sessions n start_closing) (λ p. CloseJob n p) (λ p q. refl) (λ q. known) (changed_one m.sessions n start_closing (λ moment s kid. refl))) (plain m (Rejected InvalidState)))
+called_close m (Some (n, s)) known = choose m (is_ending s) _ _ (plain m Resolved) (choose m s.callable _ _ (later m (change_session m.sessions n start_closing) (λ p. CloseJob n p) (λ p q. refl) (λ q. known) (changed_one m.sessions n start_closing (λ moment s kid. refl) (λ s. refl))) (plain m (Rejected InvalidState)))
 
 called_remove_or : (m : Machine) (n : ℕ) (o : Option DomError) → IsNumber (length m.sessions) n → Called m (remove_or n o m)
 called_remove_or m n (Some error) of = plain m (Rejected error)

@@ -35,11 +35,13 @@ use Rattle.key_sessions.specs.Owed.{task_owes, jobs_owe, tasks_owe, pending, IsO
 use Rattle.key_sessions.specs.Queued.{AreThere}
 use Rattle.key_sessions.specs.SessionsState.{SessionsState, HasStepped}
 use Rattle.key_sessions.specs.Kept.{KeptAs}
+use Rattle.key_sessions.specs.Holders.{holders_from, IsIndexOf}
 use Rattle.key_sessions.specs.Losses.{LosesBy}
 use Rattle.key_sessions.specs.Plans.{IsCallPlan, created_in, answered, told, promises_by, jobs_by, IsJobPlan, queued_by, settled_by, fired_by, settled_of, MaySettle, IsTaskPlan}
 use Rattle.key_sessions.specs.Changes.{changed, changed_in}
 use Rattle.key_sessions.proofs.SessionLists.{change_alike, settle_last, length-change_session}
 use Rattle.key_sessions.proofs.LostKeys.{lost_none}
+use Rattle.key_sessions.proofs.HeldBy.{holders_task}
 use Rattle.key_sessions.proofs.Owed.{one_same, pending_some}
 use Rattle.key_sessions.proofs.Evictions.{evict_open}
 use Rattle.key_sessions.proofs.There.{there_job, there_evict, there_task, there_tick}
@@ -102,32 +104,32 @@ length_changed : (ss : List SessionState) (n : ℕ) (change : Option Change) →
 length_changed ss n None = refl
 length_changed ss n (Some change) = length-change_session ss n (changed change)
 
-pub kept_call : (m m' : Machine) (call : AppCall) (es : List Effect) (room spare : ℕ) → KeptAs m room spare → (let d : Done = record { machine = m'; effects = es } in d) ≡ after_call call m → KeptAs m' room spare
-kept_call m m' call es room spare kept e =
+pub kept_call : (m m' : Machine) (call : AppCall) (es : List Effect) (index : List (List ℕ × List ℕ)) (room spare : ℕ) → KeptAs m index room spare → (let d : Done = record { machine = m'; effects = es } in d) ≡ after_call call m → KeptAs m' index room spare
+kept_call m m' call es index room spare kept e =
     let c = called m call in
     let same : m' ≡ (after_call call m).machine = ap (λ (d : Done). d.machine) e in
-    rw same (record { few = c.few kept.few; owed = c.asked.owed kept.owed; there = c.there kept.there; reserved = kept.reserved })
+    rw same (record { few = c.few kept.few; owed = c.asked.owed kept.owed; there = c.there kept.there; reserved = kept.reserved; indexed = λ kid. kept.indexed kid ∙ sym (c.holders kid) })
 
-kept_by : (m m' : Machine) (n : ℕ) (change : Option Change) (room spare spare' : ℕ) → KeptAs m room spare → m'.sessions ≡ changed_in m.sessions n change → IsOwed m' → AreThere m' → room ≤ spare' → KeptAs m' room spare'
-kept_by m m' n change room spare spare' kept sis owed there le = record { few = rw (sis, length_changed m.sessions n change) kept.few; owed = owed; there = there; reserved = le }
+kept_by : (m m' : Machine) (n : ℕ) (change : Option Change) (index index' : List (List ℕ × List ℕ)) (room spare spare' : ℕ) → KeptAs m index room spare → m'.sessions ≡ changed_in m.sessions n change → IsOwed m' → AreThere m' → room ≤ spare' → IsIndexOf index' m'.sessions → KeptAs m' index' room spare'
+kept_by m m' n change index index' room spare spare' kept sis owed there le is = record { few = rw (sis, length_changed m.sessions n change) kept.few; owed = owed; there = there; reserved = le; indexed = is }
 
-pub kept_job : (m m' : Machine) (n : ℕ) (change : Option Change) (room spare spare' : ℕ) → KeptAs m room spare → m'.sessions ≡ changed_in m.sessions n change → (let d : Done = record { machine = m'; effects = [] } in d) ≡ after_job m → room ≤ spare' → KeptAs m' room spare'
-kept_job m m' n change room spare spare' kept sis e le =
+pub kept_job : (m m' : Machine) (n : ℕ) (change : Option Change) (index index' : List (List ℕ × List ℕ)) (room spare spare' : ℕ) → KeptAs m index room spare → m'.sessions ≡ changed_in m.sessions n change → (let d : Done = record { machine = m'; effects = [] } in d) ≡ after_job m → room ≤ spare' → IsIndexOf index' (changed_in m.sessions n change) → KeptAs m' index' room spare'
+kept_job m m' n change index index' room spare spare' kept sis e le is =
     let same : m' ≡ (after_job m).machine = ap (λ (d : Done). d.machine) e in
-    kept_by m m' n change room spare spare' kept sis (subst IsOwed (sym same) (steady_job m kept.owed).owed) (subst AreThere (sym same) (there_job m kept.there)) le
+    kept_by m m' n change index index' room spare spare' kept sis (subst IsOwed (sym same) (steady_job m kept.owed).owed) (subst AreThere (sym same) (there_job m kept.there)) le (rw sis is)
 
-pub kept_evict : (m m' : Machine) (label : List ℕ) (n : ℕ) (change : Option Change) (room spare spare' : ℕ) → KeptAs m room spare → m'.sessions ≡ changed_in m.sessions n change → (let d : Done = record { machine = m'; effects = [] } in d) ≡ after_evict label m → room ≤ spare' → KeptAs m' room spare'
-kept_evict m m' label n change room spare spare' kept sis e le =
+pub kept_evict : (m m' : Machine) (label : List ℕ) (n : ℕ) (change : Option Change) (index index' : List (List ℕ × List ℕ)) (room spare spare' : ℕ) → KeptAs m index room spare → m'.sessions ≡ changed_in m.sessions n change → (let d : Done = record { machine = m'; effects = [] } in d) ≡ after_evict label m → room ≤ spare' → IsIndexOf index' (changed_in m.sessions n change) → KeptAs m' index' room spare'
+kept_evict m m' label n change index index' room spare spare' kept sis e le is =
     let same : m' ≡ (after_evict label m).machine = ap (λ (d : Done). d.machine) e in
-    kept_by m m' n change room spare spare' kept sis (subst IsOwed (sym same) (steady_evict m label kept.owed).owed) (subst AreThere (sym same) (there_evict m label kept.there)) le
+    kept_by m m' n change index index' room spare spare' kept sis (subst IsOwed (sym same) (steady_evict m label kept.owed).owed) (subst AreThere (sym same) (there_evict m label kept.there)) le (rw sis is)
 
-pub kept_task : (m m' : Machine) (n : ℕ) (change : Option Change) (es : List Effect) (room spare spare' : ℕ) → KeptAs m room spare → m'.sessions ≡ changed_in m.sessions n change → (let d : Done = record { machine = m'; effects = es } in d) ≡ after_task m → room ≤ spare' → KeptAs m' room spare'
-kept_task m m' n change es room spare spare' kept sis e le =
+pub kept_task : (m m' : Machine) (n : ℕ) (change : Option Change) (es : List Effect) (index : List (List ℕ × List ℕ)) (room spare spare' : ℕ) → KeptAs m index room spare → m'.sessions ≡ changed_in m.sessions n change → (let d : Done = record { machine = m'; effects = es } in d) ≡ after_task m → room ≤ spare' → KeptAs m' index room spare'
+kept_task m m' n change es index room spare spare' kept sis e le =
     let same : m' ≡ (after_task m).machine = ap (λ (d : Done). d.machine) e in
-    kept_by m m' n change room spare spare' kept sis (subst IsOwed (sym same) (steady_front m kept.owed).owed) (subst AreThere (sym same) (there_task m kept.there)) le
+    kept_by m m' n change index index room spare spare' kept sis (subst IsOwed (sym same) (steady_front m kept.owed).owed) (subst AreThere (sym same) (there_task m kept.there)) le (λ kid. kept.indexed kid ∙ sym (ap (λ (x : Machine). holders_from 1 x.sessions kid) same ∙ holders_task m kid))
 
-pub kept_tick : (m : Machine) (moment : ℕ) (us : List Task) (room spare spare' : ℕ) → KeptAs m room spare → us ≡ m.tasks ++ reports_from m.moment moment 1 m.sessions → room ≤ spare' → KeptAs (record m { moment = moment; tasks = us }) room spare'
-kept_tick m moment us room spare spare' kept e le = record { few = kept.few; owed = rw e (steady_tick m moment kept.owed).owed; there = rw e (there_tick m moment kept.there); reserved = le }
+pub kept_tick : (m : Machine) (moment : ℕ) (us : List Task) (index : List (List ℕ × List ℕ)) (room spare spare' : ℕ) → KeptAs m index room spare → us ≡ m.tasks ++ reports_from m.moment moment 1 m.sessions → room ≤ spare' → KeptAs (record m { moment = moment; tasks = us }) index room spare'
+kept_tick m moment us index room spare spare' kept e le = record { few = kept.few; owed = rw e (steady_tick m moment kept.owed).owed; there = rw e (there_tick m moment kept.there); reserved = le; indexed = kept.indexed }
 
 -- what a step tells
 pub stepped_by : (old : SessionsState) (d : Done) (m' : Machine) (es : List Effect) (list : List (ℕ × List ℕ)) → (let r : Done = record { machine = m'; effects = es } in r) ≡ d → AreLost (held_key old.machine) (held_key m') list → HasStepped old (record { machine = m'; effects = es; lost = list; room = old.room }) d

@@ -1,5 +1,8 @@
 pub mod Machine
 pub mod Keys
+pub mod Agree
+pub mod Holders
+pub mod Indexed
 pub mod Steps
 pub mod Calls
 pub mod Jobs

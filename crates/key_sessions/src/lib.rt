@@ -6,6 +6,8 @@ mod call_plan;
 mod change;
 mod ended;
 mod fault;
+mod holders;
+mod indexed;
 mod job_plan;
 mod law;
 mod losses;

@@ -1,5 +1,5 @@
 // The sessions with their queues and promises.
-ghost use Rattle.std.specs.Prelude.{◌≡◌, ◌≤◌, ◌<◌, ◌+◌, ◌-◌, [], map, length, Some, OnOk, OnErr, IfOk, IsErrOf, IsTrue, ◌↔◌, ◌≢◌};
+ghost use Rattle.std.specs.Prelude.{◌≡◌, ◌≤◌, ◌<◌, ◌+◌, ◌-◌, [], map, length, Some, OnOk, OnErr, IsOk, IfOk, IsErrOf, IsTrue, ◌↔◌, ◌≢◌};
 ghost use Rattle.std.specs.List.{list_any};
 ghost use Rattle.eme_types.specs.declared.limits.TheConstants.{MAX_SESSIONS};
 ghost use Rattle.task_queue.specs.declared.work.Task.TheVariants.{Fire};
@@ -7,6 +7,8 @@ ghost use Rattle.key_statuses.specs.Picked.{picked};
 ghost use Rattle.key_sessions.specs.SessionsState.{SessionsState, HasStepped};
 ghost use Rattle.key_sessions.specs.Machine.{empty_machine};
 ghost use Rattle.key_sessions.specs.Keys.{pick, pick_from, holds_later as later_holds, is_later};
+ghost use Rattle.key_sessions.specs.Agree.{Agree};
+ghost use Rattle.key_sessions.specs.Holders.{holders as holders_in};
 ghost use Rattle.key_sessions.specs.SessionOf.{session_of};
 ghost use Rattle.key_sessions.specs.LostPair.{pair_of};
 ghost use Rattle.key_sessions.specs.Owed.{IsOwed};
@@ -22,23 +24,26 @@ ghost use Rattle.key_sessions.specs.Tasks.{after_task, after_tick};
 use crate::call_plan::{CallPlan, add_session, give_answer, plan_call, tell};
 use crate::change::{Change, change_session};
 use crate::fault::StepFault;
+use crate::holders::{all_hold_one_key, choose_of};
+use crate::indexed::index_change;
 use crate::job_plan::{JobPlan, plan_job};
 use crate::losses::{lost_by, lost_in_time};
 use crate::lost::Lost;
-use crate::session::{Session, holds_later, open_session, usable};
+use crate::session::{Session, holds_later, open_session};
 use crate::step::{Step, no_step};
 use crate::task_plan::{TaskPlan, plan_task, plan_tick};
 use eme_types::{AppCall, Effect, Effects, Event, KeyId, Settled};
-use key_statuses::{Pick, Picks};
+use key_statuses::{KeyIndex, Pick, Picks};
 use std::alloc::{AllocError, Global};
 use std::marker::Model;
 use task_queue::{Job, Log, Promises, Queue, Task};
 
-/// The sessions, the moment, both queues, the promises and the fired events; the last step; and the room that is kept for events.
+/// The sessions with the index of their keys, the moment, both queues, the promises and the fired events; the last step; and the room that is kept for events.
 #[derive(Drop)]
 pub struct Sessions {
     alloc: Global,
     items: Vec<Session>,
+    index: KeyIndex,
     jobs: Queue<Job>,
     tasks: Queue<Task>,
     promises: Promises,
@@ -67,6 +72,7 @@ impl Sessions {
         Sessions {
             alloc,
             items: Vec::new(alloc),
+            index: KeyIndex::new(alloc),
             jobs: Queue::new(alloc),
             tasks: Queue::new(alloc),
             promises: Promises::new(alloc),
@@ -133,6 +139,13 @@ impl Sessions {
         )?;
         let wanted = room_for(self.room, 1)?;
         self.tasks.reserve(wanted)?;
+        index_change(
+            self.alloc,
+            &mut self.index,
+            &self.items,
+            plan.session,
+            &plan.change,
+        )?;
         self.jobs.drop_front();
         let JobPlan {
             session,
@@ -220,6 +233,7 @@ impl Sessions {
         let lost = lost_by(self.alloc, &self.items, session, &change, self.moment)?;
         let wanted = room_for(self.room, 1)?;
         self.tasks.reserve(wanted)?;
+        index_change(self.alloc, &mut self.index, &self.items, session, &change)?;
         change_session(&mut self.items, session, change);
         self.tasks.put(Task::Evicted { session });
         self.last = Step {
@@ -237,6 +251,13 @@ impl Sessions {
         any_later(&self.items, self.moment, kid)
     }
 
+    /// The promises that calls made, in order of their numbers: how each was settled, or none while it is pending.
+    pub fn promises(&self) -> &[Option<Settled>]
+        ensures { result.now ≡ self.now.machine.promises }
+    {
+        self.promises.as_slice()
+    }
+
     /// What the last step did that the application can see, in order of happening, until it is taken.
     pub fn effects(&self) -> &[Effect]
         ensures { result.now ≡ self.now.effects }
@@ -251,6 +272,21 @@ impl Sessions {
     {
         let none = Effects::new(self.alloc);
         std::mem::replace(&mut self.last.effects, none)
+    }
+
+    /// The sessions whose tables hold a key under an id, usable now or not, in ascending order.
+    pub fn holders(&self, kid: &KeyId) -> &[u32]
+        ensures { result.now ≡ holders_in self.now.machine kid.now }
+    {
+        self.index.holders(kid)
+    }
+
+    /// Whether no two sessions hold usable keys of one id that differ. It takes no memory.
+    pub fn agree(&self) -> Result<bool, AllocError>
+        ensures answers { IsOk result }
+        ensures exact { IfOk result (λ yes. IsTrue yes ↔ Agree self.now.machine) }
+    {
+        Ok(all_hold_one_key(self.index.ids(), &self.index, &self.items, self.moment))
     }
 
     /// Hands the last step out: its effects and the keys that it ended.
@@ -325,7 +361,7 @@ impl Picks for Sessions {
     ghost picks = { λ s. pick s.machine };
 
     fn choose(&self, kid: &KeyId) -> Option<Pick> {
-        choose_in(&self.items, self.moment, kid)
+        choose_of(&self.items, self.moment, self.index.holders(kid), kid)
     }
 }
 
@@ -384,24 +420,4 @@ fn any_later(sessions: &[Session], moment: u64, kid: &KeyId) -> bool
     sessions
         .iter()
         .any(|session| holds_later(session, moment, kid))
-}
-
-fn choose_in(sessions: &[Session], moment: u64, kid: &KeyId) -> Option<Pick>
-    requires { length sessions.now ≤ MAX_SESSIONS }
-    ensures { result ≡ picked (pick_from moment 1 (map session_of sessions.now) kid.now) }
-{
-    let mut number = 1;
-    for session in sessions {
-        match usable(session, moment, kid) {
-            Some(key) => {
-                return Some(Pick {
-                    session: number,
-                    key,
-                });
-            }
-            None => {}
-        }
-        number += 1;
-    }
-    None
 }

@@ -244,6 +244,23 @@ fn later(alloc: Global, sessions: &Sessions, numbers: &str) -> Result<String, Fa
     Ok(format!(in alloc; "{later}")?)
 }
 
+/// The sessions that hold a key.
+fn holders(alloc: Global, sessions: &Sessions, numbers: &str) -> Result<String, Fail> {
+    let kid = kid_of(alloc, numbers)?;
+    let mut text = String::new(alloc);
+    for number in sessions.holders(&kid) {
+        write!(&mut text, "{number} ")?;
+    }
+    text.push_str("hold it")?;
+    Ok(text)
+}
+
+/// Whether no two sessions hold usable keys of one id that differ.
+fn agreed(alloc: Global, sessions: &Sessions) -> Result<String, Fail> {
+    let yes = sessions.agree()?;
+    Ok(format!(in alloc; "{yes}")?)
+}
+
 /// Whether a session was evicted, and what the eviction did.
 fn evicted(alloc: Global, sessions: &mut Sessions, label: &str) -> Result<String, Fail> {
     let ended = sessions.evict(label.as_bytes())?;
@@ -252,12 +269,14 @@ fn evicted(alloc: Global, sessions: &mut Sessions, label: &str) -> Result<String
 }
 
 /// Does what a line says, and tells what came of it: a job, a task, every task, a moment, a pick, a key that is usable
-/// later, an eviction or a call.
+/// later, the holders of an id, whether the sessions agree, an eviction or a call.
 fn act(alloc: Global, sessions: &mut Sessions, line: &str) -> Result<String, Fail> {
     let (verb, rest) = cut(line);
     let did = match verb {
         "pick" => return picked(alloc, sessions, rest),
         "later" => return later(alloc, sessions, rest),
+        "holders" => return holders(alloc, sessions, rest),
+        "agree" => return agreed(alloc, sessions),
         "evict" => return evicted(alloc, sessions, rest),
         "job" => step(sessions, true)?,
         "task" => step(sessions, false)?,
@@ -513,6 +532,78 @@ pick 0.13.52 -> session 1 43
 pick 0.6.89 -> no pick
 "#;
 
+const HELD: &[u8] = br#"
+keys a - AQ:K34VFiiu0qar9xWICc9PPA Ag:K34VFiiu0qar9xWICc9PPA -> nothing
+holders 1 -> hold it
+job -> nothing
+holders 1 -> 1 hold it
+create b temporary -> promise 4 resolved
+request b keyids {"kids":["AQ"]} -> nothing
+job -> nothing
+tasks -> message 2 2 {"kids":["AQ"],"type":"temporary"}
+keys b 1000 AQ:K34VFiiu0qar9xWICc9PPA -> nothing
+job -> nothing
+holders 1 -> 1 2 hold it
+tasks -> nothing
+close a -> nothing
+holders 1 -> 1 2 hold it
+job -> lost 1 .1; lost 1 .2
+holders 1 -> 2 hold it
+holders 2 -> hold it
+pick 1 -> session 2 43
+clock 1000 -> lost 2 .1
+holders 1 -> 2 hold it
+pick 1 -> no pick
+tasks -> nothing
+keys b - Ag:K34VFiiu0qar9xWICc9PPA -> nothing
+job -> nothing
+holders 2 -> 2 hold it
+remove b -> nothing
+job -> lost 2 .1; lost 2 .2
+holders 1 -> hold it
+tasks -> nothing
+keys b - Ag:K34VFiiu0qar9xWICc9PPA -> nothing
+job -> nothing
+holders 1 -> hold it
+holders 2 -> 2 hold it
+evict b -> true; lost 2 .2
+holders 2 -> hold it
+"#;
+
+const AGREED: &[u8] = br#"
+agree -> true
+keys a - AQ:K34VFiiu0qar9xWICc9PPA -> nothing
+job -> nothing
+tasks -> nothing
+create b temporary -> promise 4 resolved
+request b keyids {"kids":["AQ"]} -> nothing
+job -> nothing
+tasks -> message 2 2 {"kids":["AQ"],"type":"temporary"}
+keys b 500..1000 AQ:AAAAAAAAAAAAAAAAAAAAAA -> nothing
+job -> nothing
+tasks -> nothing
+holders 1 -> 1 2 hold it
+agree -> true
+clock 500 -> nothing
+agree -> false
+tasks -> nothing
+clock 1000 -> lost 2 .1
+agree -> true
+tasks -> nothing
+create c temporary -> promise 7 resolved
+request c keyids {"kids":["AQ"]} -> nothing
+job -> nothing
+tasks -> message 3 3 {"kids":["AQ"],"type":"temporary"}
+keys c - AQ:AAAAAAAAAAAAAAAAAAAAAA -> nothing
+job -> nothing
+holders 1 -> 1 2 3 hold it
+agree -> false
+pick 1 -> session 1 43
+evict a -> true; lost 1 .1
+agree -> true
+pick 1 -> session 3 0
+"#;
+
 const FULL: &[u8] = br#"
 64 create a temporary -> promise 64 resolved
 create a temporary -> promise 65 rejected Quota
@@ -554,6 +645,18 @@ fn keys_are_usable_from_their_start(rt: HostRuntime) -> Result<(), Fail> {
 #[test]
 fn an_evicted_session_ends(rt: HostRuntime) -> Result<(), Fail> {
     assert!(rt; holds(rt.alloc(), OPENED, EVICTED)?);
+    Ok(())
+}
+
+#[test]
+fn the_index_follows_the_tables(rt: HostRuntime) -> Result<(), Fail> {
+    assert!(rt; holds(rt.alloc(), OPENED, HELD)?);
+    Ok(())
+}
+
+#[test]
+fn sessions_agree_where_usable_keys_are_equal(rt: HostRuntime) -> Result<(), Fail> {
+    assert!(rt; holds(rt.alloc(), OPENED, AGREED)?);
     Ok(())
 }
 

@@ -4,3 +4,5 @@ pub mod Differ
 pub mod Once
 pub mod Sorted
 pub mod Alike
+pub mod Numbers
+pub mod Holders

@@ -4,3 +4,4 @@ pub mod Statuses
 pub mod Loops
 pub mod Picked
 pub mod Laws
+pub mod Index

@@ -6,3 +6,4 @@ pub mod FedLengths
 pub mod ComingNext
 pub mod OneLog
 pub mod GoingOn
+pub mod Beyond

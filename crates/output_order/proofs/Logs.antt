@@ -1,8 +1,9 @@
 -- The log of a longer history, and the log entry by entry.
 use Rattle.std.proofs.Common.{zero, suc, ◌≡◌, ℕ, ◌+◌, ◌<◌, ◌≤◌, List, [], ◌∷◌, ◌++◌, Some, None, length, take, drop, get_or, slice_get, refl, ap, ◌∙◌, sym, append_assoc, append-nil, arith}
-use Rattle.std.specs.List.{fold}
-use Rattle.std.proofs.lemmas.List.{drop_more, drop_all}
-use Rattle.std.proofs.lemmas.List.Sums.{fold_more}
+use Rattle.std.specs.List.{fold, sum_by}
+use Rattle.std.proofs.lemmas.List.{take_more, length-take-le, take-append-drop, drop_more, drop_all}
+use Rattle.std.proofs.lemmas.List.Sums.{sum_by-cons, sum_by-append}
+use Rattle.std.proofs.lemmas.Option.{slice_get_read}
 use Rattle.eme_types.specs.declared.entry.Entry.{Entry}
 use Rattle.eme_types.specs.declared.entry.Entry.TheVariants.{Feed}
 use Rattle.eme_types.specs.declared.call.Effect.{Effect}
@@ -10,9 +11,11 @@ use Rattle.key_sessions.specs.World.{World, empty_world}
 use Rattle.cdm_state.specs.After.{after_entry, effects_of}
 use Rattle.cdm_state.specs.History.{world}
 use Rattle.cdm_state.specs.Settlements.{effects_from, effects_in}
-use Rattle.output_order.proofs.Puts.{put_three}
-use Rattle.output_order.proofs.Sizes.{some_same}
-use Rattle.output_order.specs.Log.{entry_line, effect_lines, fragments_fed, lines_from, log_of}
+use Rattle.output_order.proofs.Puts.{put_two}
+use Rattle.output_order.proofs.Sizes.{some_same, counted_more}
+use Rattle.cdm_state.specs.Feeds.{fragments_fed}
+use Rattle.cdm_state.proofs.Fragments.{one_at_most}
+use Rattle.output_order.specs.Log.{entry_line, effect_lines, lines_from, log_of}
 use Rattle.output_order.specs.Law.{LogGoesOn}
 
 -- the number of fragments after these entries, where n were fed before
@@ -44,23 +47,28 @@ pub effects_at : (ids : List ℕ) (h : List Entry) (i : ℕ) (d : Entry) → i <
 unfolding effects_in world
 effects_at ids h i d lt = effects_from_at (empty_world ids) h i d lt
 
-pub world_more : (ids : List ℕ) (h : List Entry) (i : ℕ) (d : Entry) → i < length h → world ids (take (i + 1) h) ≡ after_entry (world ids (take i h)) (get_or h i d)
-unfolding world
-world_more ids h i d lt = fold_more after_entry (empty_world ids) h i d lt
+-- a front feeds no more fragments than it has entries
+few_fed : (i : ℕ) (h : List Entry) → sum_by fragments_fed (take i h) ≤ i
+few_fed zero h = omega arith
+few_fed (suc i) [] = omega arith
+few_fed (suc i) (e ∷ h) =
+    let one : fragments_fed e ≤ 1 = one_at_most e in
+    let rest : sum_by fragments_fed (take i h) ≤ i = few_fed i h in
+    let sum : sum_by fragments_fed (e ∷ take i h) ≡ fragments_fed e + sum_by fragments_fed (take i h) = sum_by-cons fragments_fed e (take i h) in
+    omega (arith, one, rest, sum)
 
--- the text so far, and the lines of what is left, are the log
-pub record IsLogged (ids : List ℕ) (h : List Entry) (i fed : ℕ) (text : List ℕ) : Type 0 where
-  pub all : text ++ lines_from (world ids (take i h)) (i + 1) fed (drop i h) ≡ log_of ids h
+-- the text is what the log of the entries so far has beyond that of the first ones
+pub record IsLogged (ids : List ℕ) (h : List Entry) (first i fed : ℕ) (text : List ℕ) : Type 0 where
+  pub all : log_of ids (take i h) ≡ log_of ids (take first h) ++ text
+  pub count : fed ≡ sum_by fragments_fed (take i h)
   pub few : fed ≤ i
 
-pub logged_first : (ids : List ℕ) (h : List Entry) → IsLogged ids h 0 0 []
-unfolding log_of world
-logged_first ids h = record { all = refl; few = omega arith }
-
-fed_at_most_one : (e : Entry) → fragments_fed e ≤ 1
-fed_at_most_one (Feed line None) = omega arith
-fed_at_most_one (Feed line (Some f)) = omega arith
-fed_at_most_one e = omega arith
+pub logged_first : (ids : List ℕ) (h : List Entry) (first fed : ℕ) → fed ≡ sum_by fragments_fed (take first h) → IsLogged ids h first first fed []
+logged_first ids h first fed count = record {
+  all = sym (append-nil (log_of ids (take first h)));
+  count = count;
+  few = let few : sum_by fragments_fed (take first h) ≤ first = few_fed first h in omega (arith, count, few);
+}
 
 -- the line of the entry at an index and the lines of what it did were put behind a text
 pub record IsPut (ids : List ℕ) (h : List Entry) (i fed : ℕ) (e : Entry) (text next : List ℕ) : Type 0 where
@@ -72,23 +80,39 @@ pub record IsPut (ids : List ℕ) (h : List Entry) (i fed : ℕ) (e : Entry) (te
   pub line : now ≡ text ++ entry_line (i + 1) fed e
   pub more : next ≡ now ++ effect_lines effects
 
-pub logged_more : (ids : List ℕ) (h : List Entry) (i fed : ℕ) (e : Entry) (text next : List ℕ) → IsPut ids h i fed e text next → IsLogged ids h i fed text → IsLogged ids h (i + 1) (fed + fragments_fed e) next
-logged_more ids h i fed e text next at l =
-    let w : World = world ids (take i h) in
-    let v : World = world ids (take (i + 1) h) in
+-- the log of a front with one entry more
+log_more : (ids : List ℕ) (h : List Entry) (i fed : ℕ) (e : Entry) (did : List Effect) → i < length h → e ≡ get_or h i e → fed ≡ sum_by fragments_fed (take i h) → slice_get (effects_in ids h) i ≡ Some did → log_of ids (take (i + 1) h) ≡ log_of ids (take i h) ++ (entry_line (i + 1) fed e ++ effect_lines did)
+log_more ids h i fed e did within is count at =
+    let c : List Entry = take i h in
     let x : Entry = get_or h i e in
-    let rest : List Entry = drop (i + 1) h in
-    let G : Entry → List Effect → World → List ℕ = λ y fx u. entry_line (i + 1) fed y ++ (effect_lines fx ++ lines_from u (i + 1 + 1) (fed + fragments_fed y) rest) in
-    let did : at.effects ≡ effects_of w x = some_same (sym at.did ∙ effects_at ids h i e at.within) in
-    let goes : v ≡ after_entry w x = world_more ids h i e at.within in
-    let left : drop i h ≡ x ∷ rest = drop_more h i e at.within in
-    let split : G e at.effects v ≡ lines_from w (i + 1) fed (drop i h) = ap (λ y. G y at.effects v) at.is ∙ (ap (λ fx. G x fx v) did ∙ (ap (λ u. G x (effects_of w x) u) goes ∙ sym (ap (λ es. lines_from w (i + 1) fed es) left))) in
-    let after : List ℕ = lines_from v (i + 1 + 1) (fed + fragments_fed e) rest in
+    let w : World = world ids c in
+    let same : did ≡ effects_of w x = some_same (sym at ∙ effects_at ids h i e within) in
+    let le : i ≤ length h = omega (arith, within) in
+    let long : length c ≡ i = length-take-le i h le in
+    let G : ℕ → ℕ → Entry → List Effect → List ℕ = λ p n y fx. log_of ids c ++ (entry_line (p + 1) n y ++ effect_lines fx) in
+    ap (λ (es : List Entry). log_of ids es) (take_more h i e within) ∙ (log_goes_on ids c (x ∷ []) ∙ (ap (λ (t : List ℕ). log_of ids c ++ (entry_line (length c + 1) (sum_by fragments_fed c) x ++ t)) (append-nil (effect_lines (effects_of w x))) ∙ (ap (λ p. G p (sum_by fragments_fed c) x (effects_of w x)) long ∙ (ap (λ n. G i n x (effects_of w x)) (sym count) ∙ (ap (λ y. G i fed y (effects_of w x)) (sym is) ∙ ap (λ fx. G i fed e fx) (sym same))))))
+
+pub logged_more : (ids : List ℕ) (h : List Entry) (first i fed : ℕ) (e : Entry) (text next : List ℕ) → IsPut ids h i fed e text next → IsLogged ids h first i fed text → IsLogged ids h first (i + 1) (fed + fragments_fed e) next
+logged_more ids h first i fed e text next at l =
+    let line : List ℕ = entry_line (i + 1) fed e in
+    let lines : List ℕ = effect_lines at.effects in
+    let front : List ℕ = log_of ids (take first h) in
+    let put : next ≡ text ++ (line ++ lines) = put_two text line at.now lines next (line ++ lines) at.line at.more refl in
+    let one : fragments_fed e ≤ 1 = one_at_most e in
+    let few : fed ≤ i = l.few in
     record {
-      all = put_three text (entry_line (i + 1) fed e) at.now (effect_lines at.effects) next after (next ++ after) (lines_from w (i + 1) fed (drop i h)) at.line at.more refl split ∙ l.all;
-      few = let one : fragments_fed e ≤ 1 = fed_at_most_one e in let few : fed ≤ i = l.few in omega arith;
+      all = log_more ids h i fed e at.effects at.within at.is l.count at.did ∙ (ap (λ (t : List ℕ). t ++ (line ++ lines)) l.all ∙ (append_assoc front text (line ++ lines) ∙ ap (λ (t : List ℕ). front ++ t) (sym put)));
+      count = counted_more fragments_fed h i e fed (fed + fragments_fed e) (fragments_fed e) (slice_get_read h (length h) i e refl at.within at.is) l.count refl refl;
+      few = omega (arith, one, few);
     }
 
-pub logged_all : (ids : List ℕ) (h : List Entry) (i fed : ℕ) (text : List ℕ) → length h ≤ i → IsLogged ids h i fed text → text ≡ log_of ids h
-logged_all ids h i fed text le l =
-    sym (append-nil text) ∙ (ap (λ es. text ++ lines_from (world ids (take i h)) (i + 1) fed es) (sym (drop_all i h le)) ∙ l.all)
+-- the fragments that a history feeds are those of its first entries and those of the others
+pub fed_apart : (h : List Entry) (n : ℕ) → sum_by fragments_fed h ≡ sum_by fragments_fed (take n h) + sum_by fragments_fed (drop n h)
+fed_apart h n = ap (λ (es : List Entry). sum_by fragments_fed es) (sym (take-append-drop n h)) ∙ sum_by-append fragments_fed (take n h) (drop n h)
+
+-- those of the entries from one on are its own, and those of the entries behind it
+pub fed_on : (h : List Entry) (i : ℕ) (e : Entry) → i < length h → e ≡ get_or h i e → sum_by fragments_fed (drop i h) ≡ fragments_fed e + sum_by fragments_fed (drop (i + 1) h)
+fed_on h i e lt is = ap (λ (es : List Entry). sum_by fragments_fed es) (drop_more h i e lt) ∙ (sum_by-cons fragments_fed (get_or h i e) (drop (i + 1) h) ∙ ap (λ x. fragments_fed x + sum_by fragments_fed (drop (i + 1) h)) (sym is))
+
+pub fed_over : (h : List Entry) (i : ℕ) → length h ≤ i → sum_by fragments_fed (drop i h) ≡ 0
+fed_over h i le = ap (λ (es : List Entry). sum_by fragments_fed es) (drop_all i h le)

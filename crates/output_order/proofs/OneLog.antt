@@ -12,7 +12,8 @@ use Rattle.key_sessions.specs.World.{World}
 use Rattle.cdm_state.specs.After.{after_entry, effects_of}
 use Rattle.cdm_state.specs.History.{world}
 use Rattle.cdm_state.proofs.Histories.{world_more, legal_front}
-use Rattle.output_order.specs.Log.{entry_words, entry_line, effect_lines, fragments_fed, lines_from, log_of}
+use Rattle.cdm_state.specs.Feeds.{fragments_fed}
+use Rattle.output_order.specs.Log.{entry_words, entry_line, effect_lines, lines_from, log_of}
 use Rattle.output_order.specs.Law.{IsOnTheWay, LogDetermines}
 use Rattle.output_order.proofs.LineReading.{read_entry, read_back}
 use Rattle.output_order.proofs.ComingNext.{here, IsShort, follows, may_come}

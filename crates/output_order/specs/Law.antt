@@ -8,7 +8,8 @@ use Rattle.cdm_state.specs.History.{world, IsLegal}
 use Rattle.cdm_state.specs.Output.{out, out_from}
 use Rattle.cdm_state.specs.Settlements.{effects_from, calls_in}
 use Rattle.output_order.specs.Complete.{IsBegun, IsComplete}
-use Rattle.output_order.specs.Log.{fragments_fed, lines_from, log_of}
+use Rattle.cdm_state.specs.Feeds.{fragments_fed}
+use Rattle.output_order.specs.Log.{lines_from, log_of}
 use Rattle.output_order.specs.Staffed.{NamesWorker}
 use Rattle.output_order.specs.Summary.{resolves, rejects, times_resolved, times_rejected}
 use Rattle.output_order.specs.TrackFile.{file_of}

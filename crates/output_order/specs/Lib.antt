@@ -5,3 +5,4 @@ pub mod Lane
 pub mod Complete
 pub mod Staffed
 pub mod Law
+pub mod News

@@ -23,6 +23,7 @@ use Rattle.eme_types.specs.declared.entry.Verdict.TheVariants.{Taken, Stale}
 use Rattle.eme_types.specs.declared.entry.Entry.{Entry}
 use Rattle.eme_types.specs.declared.entry.Entry.TheVariants.{Call, Job, Task, Tick, Feed, Evict, Claim, Deliver, GiveUp, Publish, PassClear, WaitForKey, Settle}
 use Rattle.key_sessions.specs.World.{World, empty_world}
+use Rattle.cdm_state.specs.Feeds.{fragments_fed}
 use Rattle.cdm_state.specs.After.{after_entry, effects_of}
 
 -- bytes in lower-case hexadecimal; a dash for no bytes
@@ -113,16 +114,6 @@ effect_line (Fired event) = event_line event
 -- in order of happening
 abbrev pub effect_lines : List Effect → List ℕ
 effect_lines effects = flat_map effect_line effects
-
--- one fragment, or none
-abbrev pub fragments_in : Option Fragment → ℕ
-fragments_in None = 0
-fragments_in (Some f) = 1
-
--- how many fragments an entry feeds
-abbrev pub fragments_fed : Entry → ℕ
-fragments_fed (Feed line fragment) = fragments_in fragment
-fragments_fed e = 0
 
 -- the lines of these entries from a place and a world on, where n fragments were fed before
 abbrev pub lines_from : World → ℕ → ℕ → List Entry → List ℕ

@@ -1,6 +1,6 @@
 // The line of an entry.
 ghost use Rattle.std.specs.Prelude.{◌≡◌, ◌<◌, ◌-◌, ◌^◌, ◌+◌, IfOk, string_bytes};
-ghost use Rattle.output_order.specs.Log.{entry_line, fragments_fed};
+ghost use Rattle.output_order.specs.Log.{entry_line};
 
 use crate::names::{hex_text, verdict_name};
 use eme_types::Entry;
@@ -58,18 +58,5 @@ pub fn entry_text(alloc: Global, place: u64, fed: u64, entry: &Entry) -> Result<
         Entry::PassClear { track, index } => format!(in alloc; "{place} clear {track} {index}\n"),
         Entry::WaitForKey { track } => format!(in alloc; "{place} wait {track}\n"),
         Entry::Settle { line } => format!(in alloc; "{place} settle {line}\n"),
-    }
-}
-
-/// How many fragments the entry feeds.
-pub fn fragments_fed(entry: &Entry) -> u64
-    ensures { result ≡ fragments_fed entry.now }
-{
-    match entry {
-        Entry::Feed {
-            line: _,
-            fragment: Some(_),
-        } => 1,
-        _ => 0,
     }
 }

@@ -7,7 +7,7 @@ ghost use Rattle.cdm_state.specs.Later.{waits_later};
 ghost use Rattle.output_order.specs.Summary.{is_rejected, resolves, rejects, times_resolved, times_rejected, waits, waiting_word, track_line, summary_head, summary_of};
 
 use crate::log::effects_at;
-use crate::track::{Sizes, sizes_out};
+use crate::track::{Sizes, sizes_beyond};
 use cdm_state::Cdm;
 use eme_types::{Bytes, Effect, Entry, Settled};
 use std::alloc::{AllocError, Global};
@@ -121,7 +121,7 @@ fn waiting_name(cdm: &Cdm, track: u32) -> &'static str
 fn track_text(alloc: Global, cdm: &Cdm, track: u32) -> Result<String, AllocError>
     ensures { IfOk result (λ s. string_bytes s ≡ track_line cdm.now.tracks cdm.now.history track) }
 {
-    let Sizes { samples, bytes } = sizes_out(cdm, track)?;
+    let Sizes { samples, bytes } = sizes_beyond(cdm, track, 0)?;
     let waiting = waiting_name(cdm, track);
     format!(in alloc; "track {track} samples {samples} bytes {bytes} waiting {waiting}\n")
 }

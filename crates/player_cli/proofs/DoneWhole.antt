@@ -7,14 +7,17 @@ use Rattle.script_lang.specs.Grammar.{script_of}
 use Rattle.track_media.specs.declared.kind.MediaFault.TheVariants.{Refused as BadMedia}
 use Rattle.track_media.specs.File.{media_of}
 use Rattle.player_cli.specs.Command.{Asked}
-use Rattle.player_cli.specs.Ends.{read_outcome, script_outcome, media_outcome, refusal_outcome, outcome_of}
-use Rattle.player_cli.specs.Inputs.{Tells, Input, ScriptFile, MediaFile, ScriptEnds, MediaEnds, InputEnds, FirstEnds, HasFile, HasScript, HasMedia, HasInput, HasInputs}
+use Rattle.license_desk.specs.Table.{desk_of}
+use Rattle.player_cli.specs.Ends.{read_outcome, script_outcome, media_outcome, desk_outcome, refusal_outcome, outcome_of}
+use Rattle.player_cli.specs.Inputs.{Tells, Input, ScriptFile, MediaFile, DeskFile, RequestFile, ScriptEnds, MediaEnds, DeskEnds, InputEnds, FirstEnds, HasFile, HasScript, HasMedia, HasDesk, HasInput, HasInputs}
 use Rattle.player_cli.specs.ReadAll.{ReadEnds}
 use Rattle.player_cli.specs.Says.{done_of, all_inputs, EndSays, SaysOf, NoFault, IsDoneWhole}
 use Rattle.player_cli.specs.declared.end.ScriptEnd.{ScriptEnd}
 use Rattle.player_cli.specs.declared.end.ScriptEnd.TheVariants as script_end
 use Rattle.player_cli.specs.declared.end.MediaEnd.{MediaEnd}
 use Rattle.player_cli.specs.declared.end.MediaEnd.TheVariants as media_end
+use Rattle.player_cli.specs.declared.end.DeskEnd.{DeskEnd}
+use Rattle.player_cli.specs.declared.end.DeskEnd.TheVariants as desk_end
 use Rattle.player_cli.specs.declared.end.Refusal.{Refusal}
 use Rattle.player_cli.specs.declared.end.End.{End}
 use Rattle.player_cli.specs.declared.end.End.TheVariants.{Whole, Refused, Stopped}
@@ -55,9 +58,19 @@ module _ (s new : ShelfState) (calm : NoFault s new) where
       let refused : media_of has.file.bytes ≡ Err (BadMedia place kind) = ap media_of (sym same) ∙ says.refused in
       absurd (cc (sym refused ∙ has.fits))
 
+  -- a table of keys is taken
+  desk_is_taken : (name : List ℕ) → HasDesk s name → (end : DeskEnd) → DeskEnds end s new name → desk_outcome end ≡ OutOfMemory
+  desk_is_taken name has (desk_end.Unread end) says = is_read name _ _ has.file end says
+  desk_is_taken name has (desk_end.Refused line rule) says =
+      let same = same_bytes name _ has.file says.bytes says.told in
+      let refused : desk_of has.file.bytes ≡ Err (line, rule) = ap desk_of (sym same) ∙ says.refused in
+      absurd (cc (sym refused ∙ has.fits))
+
   is_taken : (input : Input) → HasInput s input → (refusal : Refusal) → InputEnds input refusal s new → refusal_outcome refusal ≡ OutOfMemory
   is_taken (ScriptFile name) has refusal says = ap refusal_outcome says.1 ∙ script_is_taken name has says.0 says.2
   is_taken (MediaFile name) has refusal says = ap refusal_outcome says.1 ∙ media_is_taken name has says.0 says.2
+  is_taken (DeskFile name) has refusal says = ap refusal_outcome says.1 ∙ desk_is_taken name has says.0 says.2
+  is_taken (RequestFile name) has refusal says = ap refusal_outcome says.1 ∙ is_read name _ _ has says.0 says.2
 
   -- all files are taken
   are_taken : (inputs : List Input) → HasInputs s inputs → (refusal : Refusal) → FirstEnds inputs refusal s new → refusal_outcome refusal ≡ OutOfMemory

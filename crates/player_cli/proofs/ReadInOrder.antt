@@ -4,7 +4,7 @@ use Rattle.std.specs.Prelude.{IsTrue}
 use Rattle.eme_types.specs.declared.media.Media.{Media}
 use Rattle.eme_edge.specs.Shelf.{ShelfState}
 use Rattle.player_cli.specs.ReadAll.{LeavesShelf, HasMore, ReadsCause, ReadEnds}
-use Rattle.player_cli.specs.Inputs.{MediaRead, MediaEnds}
+use Rattle.player_cli.specs.Inputs.{MediaRead, RequestRead, MediaEnds}
 use Rattle.player_cli.specs.Written.{IsUntouched}
 use Rattle.player_cli.specs.declared.read.ReadEnd.{ReadEnd}
 use Rattle.player_cli.specs.declared.read.ReadEnd.TheVariants.{TooLarge, Fault, OutOfMemory}
@@ -44,10 +44,13 @@ module _ (old mid last : ShelfState) (first : LeavesShelf old mid) where
   reads_cause name (inl rose) = inl (omega (arith, first.later, rose))
   reads_cause name (inr gone) = inr (tells_old gone.0, rw (first.files name) at gone.1)
 
-  read_ends : (end : ReadEnd) (name : List ℕ) (limit : ℕ) → ReadEnds end mid last name limit → ReadEnds end old last name limit
+  pub read_ends : (end : ReadEnd) (name : List ℕ) (limit : ℕ) → ReadEnds end mid last name limit → ReadEnds end old last name limit
   read_ends TooLarge name limit says = has_more name limit says
   read_ends Fault name limit says = reads_cause name says
   read_ends OutOfMemory name limit says = says
+
+  pub request_read_before : (name bytes : List ℕ) → RequestRead mid name bytes → RequestRead old name bytes
+  request_read_before name bytes r = record { told = λ t. sym (first.files name) ∙ r.told (still_tells t); small = r.small }
 
   pub media_ends_before : (end : MediaEnd) (name : List ℕ) → MediaEnds end mid last name → MediaEnds end old last name
   media_ends_before (Unread end) name says = read_ends end name _ says

@@ -6,14 +6,15 @@ use Rattle.std.specs.Str.{bytes_eq}
 use Rattle.text_words.specs.Fronts.{is_nothing, behind}
 use Rattle.text_words.specs.Numbers.{number_up_to}
 use Rattle.text_words.specs.Hexadecimal.{hex_bytes}
-use Rattle.eme_types.specs.declared.limits.TheConstants.{MAX_WORKERS}
+use Rattle.eme_types.specs.declared.limits.TheConstants.{MAX_WORKERS, MAX_MOMENT}
 use Rattle.player_cli.specs.declared.outcome.UsageKind.{UsageKind}
 use Rattle.player_cli.specs.declared.outcome.UsageKind.TheVariants.{MissingCommand, UnknownCommand, MissingWord, ExtraWord, BadNumber, BadKind, BadHex, EmptyName, NameClash}
 use Rattle.player_cli.specs.declared.outcome.UsageFault.{UsageFault}
 use Rattle.player_cli.specs.declared.words.PlayWords.{PlayWords}
 use Rattle.player_cli.specs.declared.quiet.RequestWords.{RequestWords}
+use Rattle.player_cli.specs.declared.quiet.DeskWords.{DeskWords}
 use Rattle.player_cli.specs.declared.quiet.QuietWords.{QuietWords}
-use Rattle.player_cli.specs.declared.quiet.QuietWords.TheVariants.{Inspect as ToInspect, Request as ToRequest, Demo as ToDemo}
+use Rattle.player_cli.specs.declared.quiet.QuietWords.TheVariants.{Inspect as ToInspect, Request as ToRequest, Demo as ToDemo, Desk as ToDesk}
 use Rattle.eme_types.specs.declared.media.InitKind.{InitKind}
 use Rattle.eme_types.specs.declared.media.InitKind.TheVariants.{Cenc, Keyids}
 
@@ -24,6 +25,12 @@ pub record Names : Type 0 where
   pub prefix : List ℕ
   pub workers : ℕ
 
+-- the table and the licence request that a desk reads, and the moment of its answer
+pub record DeskNames : Type 0 where
+  pub table : List ℕ
+  pub request : List ℕ
+  pub moment : ℕ
+
 -- what is asked of a command that says a text: one case for each
 pub data Query : Type 0 where
   -- the text of the media file of this name
@@ -32,6 +39,8 @@ pub data Query : Type 0 where
   Request : InitKind → List ℕ → Query
   -- the play of the demonstration of this number
   Demo : ℕ → Query
+  -- the answer of a table of keys to a licence request
+  Desk : DeskNames → Query
 
 -- what the words ask for
 pub data Asked : Type 0 where
@@ -165,6 +174,37 @@ abbrev pub demo_words : List (List ℕ) → Result Asked UsageFault
 demo_words [] = Err (bad_word 2 MissingWord)
 demo_words (word ∷ more) = demo_number (number_up_to (2 ^ 64 - 1) word) more
 
+-- ---- the command `desk`
+
+-- what these words ask for
+abbrev pub desk_asked : List ℕ → List ℕ → ℕ → Asked
+desk_asked table request moment = Tell (Desk (record { table = table; request = request; moment = moment }))
+
+-- no word stands behind the moment
+abbrev pub desk_over : Asked → List (List ℕ) → Result Asked UsageFault
+desk_over asked [] = Ok asked
+desk_over asked (word ∷ more) = Err (bad_word 5 ExtraWord)
+
+-- the words behind the moment
+abbrev pub desk_number : List ℕ → List ℕ → Option ℕ → List (List ℕ) → Result Asked UsageFault
+desk_number table request None more = Err (bad_word 4 BadNumber)
+desk_number table request (Some moment) more = desk_over (desk_asked table request moment) more
+
+-- the words behind the name of the request
+abbrev pub desk_moment : List ℕ → List ℕ → List (List ℕ) → Result Asked UsageFault
+desk_moment table request [] = Err (bad_word 4 MissingWord)
+desk_moment table request (word ∷ more) = desk_number table request (number_up_to MAX_MOMENT word) more
+
+-- the words behind the name of the table
+abbrev pub desk_request : List ℕ → List (List ℕ) → Result Asked UsageFault
+desk_request table [] = Err (bad_word 3 MissingWord)
+desk_request table (request ∷ more) = if is_nothing request then Err (bad_word 3 EmptyName) else desk_moment table request more
+
+-- the words behind `desk`
+abbrev pub desk_words : List (List ℕ) → Result Asked UsageFault
+desk_words [] = Err (bad_word 2 MissingWord)
+desk_words (table ∷ more) = if is_nothing table then Err (bad_word 2 EmptyName) else desk_request table more
+
 -- ---- all commands
 
 -- what the words of a command that plays no files ask for, or the first bad word
@@ -174,6 +214,7 @@ quiet_command (word ∷ more) =
     if bytes_eq word (codes "inspect") then inspect_words more
     else if bytes_eq word (codes "request") then request_words more
     else if bytes_eq word (codes "demo") then demo_words more
+    else if bytes_eq word (codes "desk") then desk_words more
     else Err (bad_word 1 UnknownCommand)
 
 -- what the words ask for, or the first bad word
@@ -195,17 +236,23 @@ IsAsked asked w = asked ≡ Ok (Play (names_of w))
 abbrev pub data_of : List ℕ → List ℕ
 data_of word = unwrap_or (hex_bytes word) []
 
+-- the names and the moment that the words of a desk give
+abbrev pub desk_names : DeskWords → DeskNames
+desk_names w = record { table = w.table.now; request = w.request.now; moment = w.moment }
+
 -- what the words of a command ask for that says a text
 abbrev pub query_of : QuietWords → Query
 query_of (ToInspect media) = Inspect media.now
 query_of (ToRequest w) = Request w.kind (data_of w.hex.now)
 query_of (ToDemo n) = Demo n
+query_of (ToDesk w) = Desk (desk_names w)
 
 -- a hexadecimal word among them is one
 abbrev pub HasData : QuietWords → Type 0
 HasData (ToInspect media) = Unit {0}
 HasData (ToRequest w) = IsSome (hex_bytes w.hex.now)
 HasData (ToDemo n) = Unit {0}
+HasData (ToDesk w) = Unit {0}
 
 -- they ask for a request of that type with the bytes of that word
 pub record IsRequested (asked : Result Asked UsageFault) (w : RequestWords) : Type 0 where

@@ -5,13 +5,15 @@ use Rattle.script_lang.specs.declared.fault.ScriptKind.{ScriptKind}
 use Rattle.script_lang.specs.declared.fault.ScriptKind.TheVariants as script
 use Rattle.track_media.specs.declared.kind.MediaKind.{MediaKind}
 use Rattle.track_media.specs.declared.kind.MediaKind.TheVariants as media
+use Rattle.license_desk.specs.declared.fault.DeskKind.{DeskKind}
+use Rattle.license_desk.specs.declared.fault.DeskKind.TheVariants as desk
 use Rattle.player_cli.specs.declared.outcome.UsageKind.{UsageKind}
 use Rattle.player_cli.specs.declared.outcome.UsageKind.TheVariants.{MissingCommand, UnknownCommand, MissingWord, ExtraWord, BadNumber, BadKind, BadHex, EmptyName, NameClash}
 use Rattle.player_cli.specs.declared.outcome.UsageFault.{UsageFault}
 use Rattle.player_cli.specs.declared.outcome.Which.{Which}
-use Rattle.player_cli.specs.declared.outcome.Which.TheVariants.{Script, Media}
+use Rattle.player_cli.specs.declared.outcome.Which.TheVariants.{Script, Media, Desk, Request}
 use Rattle.player_cli.specs.declared.outcome.Outcome.{Outcome}
-use Rattle.player_cli.specs.declared.outcome.Outcome.TheVariants.{Played, Done, Usage, ScriptRefused, MediaRefused, TooLarge, ReadFault, WriteFault, OutOfMemory}
+use Rattle.player_cli.specs.declared.outcome.Outcome.TheVariants.{Played, Done, Usage, ScriptRefused, MediaRefused, TooLarge, ReadFault, WriteFault, OutOfMemory, DeskRefused}
 
 -- the exit status of each outcome
 abbrev pub status_of : Outcome → ℕ
@@ -24,6 +26,7 @@ status_of (TooLarge which limit) = 5
 status_of ReadFault = 6
 status_of WriteFault = 7
 status_of OutOfMemory = 8
+status_of (DeskRefused line rule) = 10
 
 -- the name of what is wrong with a word
 abbrev pub usage_name : UsageKind → List ℕ
@@ -91,6 +94,15 @@ media_name media.TrackId = codes "TrackId"
 media_name media.Hex = codes "Hex"
 media_name media.Kid = codes "Kid"
 
+-- the name of a broken rule of a table of keys
+abbrev pub desk_name : DeskKind → List ℕ
+desk_name desk.Header = codes "Header"
+desk_name desk.Line = codes "Line"
+desk_name desk.Kid = codes "Kid"
+desk_name desk.Key = codes "Key"
+desk_name desk.Number = codes "Number"
+desk_name desk.DuplicateKid = codes "DuplicateKid"
+
 -- the line of a bad word
 abbrev pub usage_text : UsageFault → List ℕ
 usage_text fault = codes "usage: word " ++ (decimal fault.place ++ (codes ": " ++ (usage_name fault.kind ++ codes "\n")))
@@ -99,6 +111,8 @@ usage_text fault = codes "usage: word " ++ (decimal fault.place ++ (codes ": " +
 abbrev pub large_text : Which → ℕ → List ℕ
 large_text Script limit = codes "too large: script: limit " ++ (decimal limit ++ codes "\n")
 large_text Media limit = codes "too large: media: limit " ++ (decimal limit ++ codes "\n")
+large_text Desk limit = codes "too large: desk: limit " ++ (decimal limit ++ codes "\n")
+large_text Request limit = codes "too large: request: limit " ++ (decimal limit ++ codes "\n")
 
 -- the line of an outcome, or no byte
 abbrev pub text_of : Outcome → List ℕ
@@ -111,3 +125,4 @@ text_of (TooLarge which limit) = large_text which limit
 text_of ReadFault = codes "read fault\n"
 text_of WriteFault = codes "write fault\n"
 text_of OutOfMemory = codes "out of memory\n"
+text_of (DeskRefused line rule) = codes "desk: line " ++ (decimal line ++ (codes ": " ++ (desk_name rule ++ codes "\n")))

@@ -11,6 +11,7 @@ use Rattle.output_order.specs.Complete.{IsComplete}
 use Rattle.output_order.specs.Staffed.{IsStaffed}
 use Rattle.output_order.specs.Summary.{summary_of}
 use Rattle.player_core.specs.Alone.{IsAlone, IsOneLane}
+use Rattle.serial_play.specs.Law.{HasSerialAnswer}
 use Rattle.player_cli.specs.Command.{Names}
 use Rattle.player_cli.specs.Inputs.{Input, ScriptFile, MediaFile, ScriptRead, MediaRead}
 use Rattle.player_cli.specs.FileText.{FileText}
@@ -25,13 +26,14 @@ play_inputs names = ScriptFile names.script ∷ MediaFile names.media ∷ []
 abbrev pub SettlesEach : List ℕ → List Entry → Type 0
 SettlesEach ids h = (p : ℕ) → 1 ≤ p → p ≤ calls_in h → length (settlements ids h p) ≡ 1
 
--- what the history of every play is: legal, complete for the script and the media, staffed for the workers, and it settles each promise
--- once
+-- what the history of every play is: legal, complete for the script and the media, staffed for the workers; it settles each promise
+-- once, and where the script is paced and agreeing it has the answer of the serial play
 pub record IsHistory (workers : ℕ) (script : List Line) (media : Media) (history : List Entry) : Type 0 where
   pub legal : IsLegal media.tracks history
   pub complete : IsComplete script media history
   pub staffed : IsStaffed workers history
   pub settled : SettlesEach media.tracks history
+  pub serial : HasSerialAnswer script media history
 
 -- with no worker, the history of a script of lane 0 alone is that of one thread
 abbrev pub AloneWithout : ℕ → List Line → Media → List Entry → Type 0

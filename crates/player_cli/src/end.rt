@@ -1,11 +1,12 @@
 // How a command ends, in the small types of its steps, and what the top call answers then.
 ghost use Rattle.std.specs.Prelude.{◌≡◌};
-ghost use Rattle.player_cli.specs.Ends.{read_outcome, script_outcome, media_outcome, refusal_outcome, outcome_of, writing_end};
+ghost use Rattle.player_cli.specs.Ends.{read_outcome, script_outcome, media_outcome, desk_outcome, refusal_outcome, outcome_of, writing_end};
 
 use crate::outcome::{Outcome, Which};
 use crate::read::ReadEnd;
 use eme_edge::ShelfFault;
 use eme_types::{MAX_MEDIA_BYTES, MAX_SCRIPT_BYTES};
+use license_desk::{DeskKind, MAX_DESK_BYTES, MAX_REQUEST_BYTES};
 use script_lang::ScriptKind;
 use track_media::MediaKind;
 
@@ -25,11 +26,22 @@ pub enum MediaEnd {
     Refused { place: u64, kind: MediaKind },
 }
 
+/// Why a file gave no table of keys.
+#[derive(Clone, Copy, Debug, PartialEq, Eq)]
+pub enum DeskEnd {
+    Unread(ReadEnd),
+    /// The first line with a broken rule, counted from 1, and its first broken rule.
+    Refused { line: u32, kind: DeskKind },
+}
+
 /// Why a command ended before it wrote or said anything.
 #[derive(Clone, Copy, Debug, PartialEq, Eq)]
 pub enum Refusal {
     Script(ScriptEnd),
     Media(MediaEnd),
+    Desk(DeskEnd),
+    /// The licence request was not read.
+    Request(ReadEnd),
     OutOfMemory,
 }
 
@@ -81,12 +93,23 @@ fn media_outcome(end: MediaEnd) -> Outcome
     }
 }
 
+fn desk_outcome(end: DeskEnd) -> Outcome
+    ensures { result ≡ desk_outcome end }
+{
+    match end {
+        DeskEnd::Unread(end) => read_outcome(Which::Desk, MAX_DESK_BYTES, end),
+        DeskEnd::Refused { line, kind } => Outcome::DeskRefused { line, kind },
+    }
+}
+
 fn refusal_outcome(refusal: Refusal) -> Outcome
     ensures { result ≡ refusal_outcome refusal }
 {
     match refusal {
         Refusal::Script(end) => script_outcome(end),
         Refusal::Media(end) => media_outcome(end),
+        Refusal::Desk(end) => desk_outcome(end),
+        Refusal::Request(end) => read_outcome(Which::Request, MAX_REQUEST_BYTES, end),
         Refusal::OutOfMemory => Outcome::OutOfMemory,
     }
 }

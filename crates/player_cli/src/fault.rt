@@ -1,9 +1,10 @@
 // What an outcome means to the outside: an exit status and a line on standard error.
 ghost use Rattle.std.specs.Prelude.{◌≡◌, IfOk, string_bytes};
-ghost use Rattle.player_cli.specs.Faults.{status_of, text_of, usage_name, script_name, media_name};
+ghost use Rattle.player_cli.specs.Faults.{status_of, text_of, usage_name, script_name, media_name, desk_name};
 
 use crate::outcome::{Outcome, UsageFault, UsageKind, Which};
 use eme_types::Bytes;
+use license_desk::DeskKind;
 use script_lang::ScriptKind;
 use std::alloc::{AllocError, Global};
 use track_media::MediaKind;
@@ -22,6 +23,7 @@ pub fn status(outcome: &Outcome) -> u8
         Outcome::ReadFault => 6,
         Outcome::WriteFault => 7,
         Outcome::OutOfMemory => 8,
+        Outcome::DeskRefused { line: _, kind: _ } => 10,
     }
 }
 
@@ -103,6 +105,19 @@ fn media_name(kind: MediaKind) -> &'static str
     }
 }
 
+fn desk_name(kind: DeskKind) -> &'static str
+    ensures { result.now ≡ desk_name kind }
+{
+    match kind {
+        DeskKind::Header => "Header",
+        DeskKind::Line => "Line",
+        DeskKind::Kid => "Kid",
+        DeskKind::Key => "Key",
+        DeskKind::Number => "Number",
+        DeskKind::DuplicateKid => "DuplicateKid",
+    }
+}
+
 fn text_of(alloc: Global, outcome: &Outcome) -> Result<String, AllocError>
     ensures { IfOk result (λ text. string_bytes text ≡ text_of outcome.now) }
 {
@@ -129,9 +144,21 @@ fn text_of(alloc: Global, outcome: &Outcome) -> Result<String, AllocError>
             which: Which::Media,
             limit,
         } => { format!(in alloc; "too large: media: limit {limit}\n") }
+        Outcome::TooLarge {
+            which: Which::Desk,
+            limit,
+        } => { format!(in alloc; "too large: desk: limit {limit}\n") }
+        Outcome::TooLarge {
+            which: Which::Request,
+            limit,
+        } => { format!(in alloc; "too large: request: limit {limit}\n") }
         Outcome::ReadFault => String::from_str(alloc, "read fault\n"),
         Outcome::WriteFault => String::from_str(alloc, "write fault\n"),
         Outcome::OutOfMemory => String::from_str(alloc, "out of memory\n"),
+        Outcome::DeskRefused { line, kind } => {
+            let name = desk_name(*kind);
+            format!(in alloc; "desk: line {line}: {name}\n")
+        }
     }
 }
 

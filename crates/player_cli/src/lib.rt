@@ -2,6 +2,7 @@
 #![tactic(auto)]
 
 mod demo;
+mod desk;
 mod end;
 mod fault;
 mod inputs;
@@ -21,6 +22,7 @@ mod write;
 
 pub use decrypt_workers::{FreeGate, Gate, Spot};
 pub use fault::{fault_text, status};
+pub use license_desk::DeskKind;
 pub use outcome::{Outcome, UsageFault, UsageKind, Which};
 pub use script_lang::ScriptKind;
 pub use top::{run_player, run_quiet};

@@ -1,14 +1,19 @@
 // What the top call answers.
+use license_desk::DeskKind;
 use script_lang::ScriptKind;
 use track_media::MediaKind;
 
-/// Which of the two files.
+/// Which of the files that a command reads.
 #[derive(Clone, Copy, Debug, PartialEq, Eq)]
 pub enum Which {
     /// The script, which `play` reads first.
     Script,
     /// The media file.
     Media,
+    /// The table of keys of a desk, which it reads first.
+    Desk,
+    /// The licence request that a desk answers.
+    Request,
 }
 
 /// What is wrong with a word.
@@ -54,6 +59,8 @@ pub enum Outcome {
     ScriptRefused { line: u32, kind: ScriptKind },
     /// The first byte of what breaks the first broken rule, counted from 0; nothing was written or said.
     MediaRefused { place: u64, kind: MediaKind },
+    /// The first line of a table of keys with a broken rule, counted from 1, and its first broken rule; nothing was said.
+    DeskRefused { line: u32, kind: DeskKind },
     /// The file has more bytes than the limit; nothing was written or said.
     TooLarge { which: Which, limit: u64 },
     /// A read failed, or a file that the command has to read is not there; nothing was written or said.

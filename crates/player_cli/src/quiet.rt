@@ -1,10 +1,10 @@
 // The words of the commands that play no files.
 ghost use Rattle.std.specs.Prelude.{◌≡◌, map, string_bytes, MatchResult, Ok, Err};
-ghost use Rattle.player_cli.specs.Command.{quiet_command, inspect_words, request_words, demo_words, kind_of, Tell, Inspect, Demo, IsRequested, IsQuiet};
+ghost use Rattle.player_cli.specs.Command.{quiet_command, inspect_words, request_words, demo_words, desk_words, desk_request, kind_of, Tell, Inspect, Demo, Desk, desk_names, IsRequested, IsQuiet};
 
 use crate::outcome::{UsageFault, UsageKind};
 use crate::words::{bad_word, next_word};
-use eme_types::InitKind;
+use eme_types::{InitKind, MAX_MOMENT};
 use text_words::{is_hex, number_up_to};
 
 /// What the words of a request ask for. The hexadecimal word is in its form.
@@ -12,6 +12,14 @@ use text_words::{is_hex, number_up_to};
 pub struct RequestWords<'a> {
     pub kind: InitKind,
     pub hex: &'a str,
+}
+
+/// What the words of a desk ask for: the names of its table and of the request, and the moment of the answer, in milliseconds.
+#[derive(Clone, Copy)]
+pub struct DeskWords<'a> {
+    pub table: &'a str,
+    pub request: &'a str,
+    pub moment: u64,
 }
 
 /// What the words of a command ask for that plays no files.
@@ -22,6 +30,7 @@ pub enum QuietWords<'a> {
     Request(RequestWords<'a>),
     /// The play of the demonstration of this number.
     Demo(u64),
+    Desk(DeskWords<'a>),
 }
 
 fn kind_of(word: &str) -> Option<InitKind>
@@ -59,6 +68,12 @@ pub fn read_quiet(words: &[String]) -> Result<QuietWords<'_>, UsageFault>
     if command == "demo" {
         return match read_demo(rest) {
             Ok(n) => Ok(QuietWords::Demo(n)),
+            Err(fault) => Err(fault),
+        };
+    }
+    if command == "desk" {
+        return match read_desk_words(rest) {
+            Ok(asked) => Ok(QuietWords::Desk(asked)),
             Err(fault) => Err(fault),
         };
     }
@@ -115,5 +130,43 @@ fn read_demo(words: &[String]) -> Result<u64, UsageFault>
     match next_word(rest) {
         None => Ok(n),
         Some(_) => Err(bad_word(3, UsageKind::ExtraWord)),
+    }
+}
+
+fn read_desk_words(words: &[String]) -> Result<DeskWords<'_>, UsageFault>
+    ensures { MatchResult result (λ w. desk_words (map string_bytes words.now) ≡ Ok (Tell (Desk (desk_names w)))) (λ e. desk_words (map string_bytes words.now) ≡ Err e) }
+{
+    let Some((table, rest)) = next_word(words) else {
+        return Err(bad_word(2, UsageKind::MissingWord));
+    };
+    if table.is_empty() {
+        return Err(bad_word(2, UsageKind::EmptyName));
+    }
+    read_desk_request(table, rest)
+}
+
+/// Reads the words behind the name of the table.
+fn read_desk_request<'a>(table: &'a str, words: &'a [String]) -> Result<DeskWords<'a>, UsageFault>
+    ensures { MatchResult result (λ w. desk_request table.now (map string_bytes words.now) ≡ Ok (Tell (Desk (desk_names w)))) (λ e. desk_request table.now (map string_bytes words.now) ≡ Err e) }
+{
+    let Some((request, rest)) = next_word(words) else {
+        return Err(bad_word(3, UsageKind::MissingWord));
+    };
+    if request.is_empty() {
+        return Err(bad_word(3, UsageKind::EmptyName));
+    }
+    let Some((word, rest)) = next_word(rest) else {
+        return Err(bad_word(4, UsageKind::MissingWord));
+    };
+    let Some(moment) = number_up_to(MAX_MOMENT, word.as_bytes()) else {
+        return Err(bad_word(4, UsageKind::BadNumber));
+    };
+    match next_word(rest) {
+        None => Ok(DeskWords {
+            table,
+            request,
+            moment,
+        }),
+        Some(_) => Err(bad_word(5, UsageKind::ExtraWord)),
     }
 }

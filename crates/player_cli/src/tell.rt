@@ -7,6 +7,7 @@ ghost use Rattle.player_cli.specs.Says.{EndSays};
 ghost use Rattle.player_cli.specs.Told.{inputs_of, IsText};
 
 use crate::demo::demo_summary;
+use crate::desk::desk_line;
 use crate::end::{End, Refusal, writing_end};
 use crate::inspect::inspection;
 use crate::quiet::QuietWords;
@@ -26,6 +27,7 @@ fn text_of<S: Shelf>(alloc: Global, asked: QuietWords<'_>, shelf: &mut S) -> Res
 {
     let made = match asked {
         QuietWords::Inspect(name) => return inspection(alloc, name, shelf),
+        QuietWords::Desk(asked) => return desk_line(alloc, asked, shelf),
         QuietWords::Request(asked) => answer(alloc, asked.kind, asked.hex),
         QuietWords::Demo(n) => demo_summary(alloc, n),
     };

@@ -21,6 +21,7 @@ use Rattle.cdm_state.proofs.Places.{either_place, slice_get_last}
 use Rattle.cdm_state.proofs.TrackIds.{and_both, or_right}
 use Rattle.cdm_state.proofs.Live.{live_more, key_is}
 use Rattle.cdm_state.proofs.Claiming.{none_names_next}
+use Rattle.track_media.proofs.LineFits.{not_true}
 use Rattle.player_core.specs.Left.{ends_claim, claim_under, claim_made, stays, claims_after, claims_from, live_claims}
 
 from_more : (w : World) (n : ℕ) (cs : List ClaimState) (h : List Entry) (e : Entry) → claims_from w n cs (h ++ e ∷ []) ≡ claims_after (after_entry (fold after_entry w h) e) (n + length h + 1) e (claims_from w n cs h)
@@ -56,15 +57,11 @@ unended place (PassClear track index) is ends = ends
 unended place (WaitForKey track) is ends = ends
 unended place (Settle line) is ends = ends
 
-pub not_false : (b : Bool) → not b ≡ true → b ≡ false
-not_false true is = absurd cc
-not_false false is = refl
-
 old_live : (ids : List ℕ) (h : List Entry) (e : Entry) (c : ClaimState) → LiveAs ids h c.place (entry_of c) c.key → stays (world ids (h ++ e ∷ [])) e c ≡ true → LiveAs ids (h ++ e ∷ []) c.place (entry_of c) c.key
 old_live ids h e c live is =
     let m = (world ids (h ++ e ∷ [])).machine in
     let both = and_both (holds_still m c) (not (ends_claim c.place e)) is in
-    live_more ids h e c.place (entry_of c) c.key live (key_is (held_key m c.session c.kid) c.key both.0) (unended c.place e (not_false (ends_claim c.place e) both.1))
+    live_more ids h e c.place (entry_of c) c.key live (key_is (held_key m c.session c.kid) c.key both.0) (unended c.place e (not_true (ends_claim c.place e) both.1))
 
 new_live : (ids : List ℕ) (h : List Entry) (worker track index session : ℕ) (kid : List ℕ) (key : KeyBytes) → IsLegal ids h → held_key (world ids (h ++ Claim worker track index session kid ∷ [])).machine session kid ≡ Some key → LiveAs ids (h ++ Claim worker track index session kid ∷ []) (length h + 1) (Claim worker track index session kid) key
 new_live ids h worker track index session kid key legal holds =

@@ -2,13 +2,16 @@
 use Rattle.std.proofs.Common.{◌≡◌, ℕ, Bool, true, false, ◌&&◌, Result, Ok, Err, List, refl, sym, subst}
 use Rattle.std.specs.Prelude.{◌==◌, IfOk, IsTrue}
 use Rattle.std.proofs.lemmas.Bool.{eqb-true}
+use Rattle.eme_types.specs.Fed.{IsFed}
 use Rattle.eme_types.specs.declared.media.Media.{Media}
 use Rattle.script_lang.specs.declared.script.Line.{Line}
 use Rattle.cdm_state.specs.Run.{Run}
+use Rattle.cdm_state.specs.History.{IsLegal}
 use Rattle.cdm_state.specs.Progress.{NoneWaits}
 use Rattle.output_order.specs.Complete.{IsComplete}
 use Rattle.output_order.specs.Staffed.{IsStaffed}
 use Rattle.play_parts.specs.Whole.{IsWhole}
+use Rattle.serial_play.specs.Law.{HasSerialAnswer, OneAnswer}
 
 pub alone_by : (workers : ℕ) (one is : Bool) → workers ≡ 0 → is ≡ one → is ≡ (workers == 0 && one)
 alone_by workers one is zero same = subst (λ (n : ℕ). is ≡ (n == 0 && one)) (sym zero) same
@@ -32,6 +35,11 @@ not_alone P (Err e) workers one other = tt
 pub whole_complete : {E : Type 0} (script : List Line) (media : Media) (k : ℕ) (r : Result Run E) → IfOk r (λ cdm. IsWhole script media k cdm.history) → IfOk r (λ cdm. IsComplete script media cdm.history)
 whole_complete script media k (Ok cdm) whole = whole.complete
 whole_complete script media k (Err e) whole = tt
+
+-- a legal history that is whole has the answer of the serial play
+pub whole_serial : {E : Type 0} (script : List Line) (media : Media) (k : ℕ) (r : Result Run E) → OneAnswer → IsFed media → IfOk r (λ cdm. IsLegal media.tracks cdm.history) → IfOk r (λ cdm. IsWhole script media k cdm.history) → IfOk r (λ cdm. HasSerialAnswer script media cdm.history)
+whole_serial script media k (Ok cdm) answer fed legal whole = answer script media cdm.history fed legal whole.complete
+whole_serial script media k (Err e) answer fed legal whole = tt
 
 pub whole_staffed : {E : Type 0} (script : List Line) (media : Media) (k : ℕ) (r : Result Run E) → IfOk r (λ cdm. IsWhole script media k cdm.history) → IfOk r (λ cdm. IsStaffed k cdm.history)
 whole_staffed script media k (Ok cdm) whole = whole.staffed

@@ -15,7 +15,7 @@ use Rattle.key_claims.specs.TracksState.{ClaimState}
 use Rattle.cdm_state.proofs.TrackIds.{state_id, and_both}
 use Rattle.output_order.proofs.Sizes.{something_at, some_same}
 use Rattle.player_core.specs.Left.{awake_weight, samples_left, many_left, weigh, sample_weight}
-use Rattle.player_core.proofs.LiveClaims.{not_false}
+use Rattle.track_media.proofs.LineFits.{not_true}
 use Rattle.player_core.proofs.Queued.{woken}
 
 sample_less : (a b : Bool) → (a ≡ true → b ≡ true) → (if b then 1 else 2) ≤ (if a then 1 else 2)
@@ -93,7 +93,7 @@ tracks_fall f g by change id s (t ∷ ts) distinct less known falls =
     elim (eqb_tells t.id id) [
       | inl p ↦ (
           let is : t ≡ s = some_same (rw p.0 at known) in
-          let none : is_among (map state_id ts) id ≡ false = ap (is_among (map state_id ts)) (sym p.1) ∙ not_false (is_among (map state_id ts) t.id) both.0 in
+          let none : is_among (map state_id ts) id ≡ false = ap (is_among (map state_id ts)) (sym p.1) ∙ not_true (is_among (map state_id ts) t.id) both.0 in
           let rest = others_less f g id ts none less in
           let here : g (change t) + by ≤ f t = subst (λ (u : TrackState). g (change u) + by ≤ f u) (sym is) falls in
           let a = sum_by-cons g (change t) ts in

@@ -6,6 +6,7 @@ ghost use Rattle.output_order.specs.Complete.{IsComplete};
 ghost use Rattle.output_order.specs.Staffed.{IsStaffed};
 ghost use Rattle.cdm_state.specs.Progress.{NoneWaits};
 ghost use Rattle.player_core.specs.Alone.{IsAlone};
+ghost use Rattle.serial_play.specs.Law.{HasSerialAnswer};
 ghost use Rattle.eme_types.specs.declared.media.Media.{Media};
 ghost use Rattle.play_parts.specs.Asks.{entry_of, left_by};
 ghost use Rattle.player_core.specs.Course.{Goes, MayGo, HasGone, HasFollowed};
@@ -15,6 +16,7 @@ use crate::settle::settle_all;
 use cdm_state::{Cdm, moment_is_of_the_last_tick};
 use eme_types::{Copies, Fragment, Media};
 use script_lang::{Action, Line, Script};
+use serial_play::paced_scripts_have_one_answer;
 use std::alloc::{AllocError, Global};
 use std::collections::VecDeque;
 
@@ -108,7 +110,7 @@ fn play_rest(
 }
 
 /// Plays the script on the media: its lines in order, whatever their lanes, with steps taken at each settle alone. The history is that of
-/// the alone order.
+/// the alone order; where the script is paced and agreeing, it has the answer of the serial play.
 pub fn play_alone(alloc: Global, script: &Script, media: Media) -> Result<Cdm, AllocError>
     requires fed { IsFed media }
     ensures tracks { IfOk result (λ cdm. cdm.tracks ≡ media.tracks) }
@@ -116,11 +118,13 @@ pub fn play_alone(alloc: Global, script: &Script, media: Media) -> Result<Cdm, A
     ensures complete { IfOk result (λ cdm. IsComplete script.now media cdm.history) }
     ensures staffed { IfOk result (λ cdm. IsStaffed 0 cdm.history) }
     ensures delivered { IfOk result (λ cdm. NoneWaits cdm.history) }
+    ensures serial { IfOk result (λ cdm. HasSerialAnswer script.now media cdm.history) }
 {
     let mut cdm = Cdm::new(alloc, &media.tracks)?;
     let mut left = VecDeque::from_vec(media.fragments.into_vec());
     play_lines(alloc, &mut cdm, script, &mut left)?;
     play_rest(alloc, &mut cdm, script, left)?;
+    paced_scripts_have_one_answer();
     let _legal = cdm.history();
     Ok(cdm)
 }

@@ -14,4 +14,5 @@ pub use alone::play_alone;
 pub use demo::{DemoInput, demo_input};
 pub use inspect::inspect_text;
 pub use law::the_alone_history_is_one;
+pub use serial_play::{Results, SerialEnd, paced_scripts_have_one_answer, serial_end};
 pub use with_workers::play;

@@ -7,12 +7,14 @@ ghost use Rattle.output_order.specs.Complete.{IsComplete};
 ghost use Rattle.output_order.specs.Lane.{is_of_lane};
 ghost use Rattle.output_order.specs.Staffed.{IsStaffed};
 ghost use Rattle.player_core.specs.Alone.{IsAlone, IsOneLane};
+ghost use Rattle.serial_play.specs.Law.{HasSerialAnswer};
 
 use crate::alone::play_alone;
 use cdm_state::Cdm;
 use decrypt_workers::Gate;
 use eme_types::Media;
 use script_lang::Script;
+use serial_play::paced_scripts_have_one_answer;
 use std::alloc::{AllocError, Global};
 use std::sync::Wait;
 use std::thread::Threads;
@@ -49,9 +51,11 @@ pub fn play<R: Threads + Wait + Sync, G: Gate + Sync>(
     ensures complete { IfOk result (λ cdm. IsComplete script.now media cdm.history) }
     ensures staffed { IfOk result (λ cdm. IsStaffed workers cdm.history) }
     ensures delivered { IfOk result (λ cdm. NoneWaits cdm.history) }
+    ensures serial { IfOk result (λ cdm. HasSerialAnswer script.now media cdm.history) }
 {
     if is_alone(script, workers) {
         return play_alone(alloc, script, media);
     }
+    paced_scripts_have_one_answer();
     play_together(rt, alloc, script, media, workers, gate)
 }

@@ -3,3 +3,4 @@ pub mod LabelLemmas
 pub mod Walk
 pub mod Keeps
 pub mod TellLemmas
+pub mod Pacing

@@ -7,3 +7,4 @@ pub mod Rules
 pub mod Grammar
 pub mod Faults
 pub mod Read
+pub mod Paced

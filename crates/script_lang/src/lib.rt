@@ -5,6 +5,7 @@ mod actions;
 mod content;
 mod fault;
 mod labels;
+mod paced;
 mod parts;
 mod read;
 mod script;
@@ -15,5 +16,6 @@ mod verb;
 mod words;
 
 pub use fault::{ScriptFault, ScriptKind};
+pub use paced::is_paced;
 pub use read::read_script;
 pub use script::{Action, Line, Script};

@@ -1,4 +1,4 @@
-use crate::{Action, ScriptFault, ScriptKind, read_script};
+use crate::{Action, ScriptFault, ScriptKind, is_paced, read_script};
 use eme_types::AppCall;
 use std::alloc::Global;
 use std::process::Abort;
@@ -151,5 +151,30 @@ fn lines_are_counted(rt: HostRuntime) -> Result<(), Fail> {
     text.pop();
     text.push(0xff)?;
     refused(&rt, rt.alloc(), &text, 4097, ScriptKind::NotUtf8);
+    Ok(())
+}
+
+// A settle stands behind each line but the last, all on lane 0; blank lines and notes do not count.
+#[test]
+fn paced_scripts_settle_behind_each_line(rt: HostRuntime) -> Result<(), Fail> {
+    for (text, paced) in [
+        (b"EMES 1\n".as_slice(), true),
+        (
+            b"EMES 1\n0 settle\n0 feed\n# note\n0 settle\n0 settle\n0 close a\n".as_slice(),
+            true,
+        ),
+        (b"EMES 1\n0 feed\n0 clock 5\n0 settle\n".as_slice(), false),
+        (
+            b"EMES 1\n0 feed\n0 settle\n0 clock 5\n0 close a\n".as_slice(),
+            false,
+        ),
+        (
+            b"EMES 1\n0 feed\n0 settle\n7 close a\n0 settle\n".as_slice(),
+            false,
+        ),
+    ] {
+        let script = read_script(rt.alloc(), text)?;
+        assert_eq!(rt; is_paced(&script), paced);
+    }
     Ok(())
 }

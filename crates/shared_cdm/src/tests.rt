@@ -6,7 +6,7 @@ mod calls;
 
 use crate::shared::SharedCdm;
 use book_lock::Pass;
-use calls::{ask, creation, evict, feed_nothing, job, label, two_threads, works};
+use calls::{ask, creation, entries_seen, evict, feed_nothing, job, label, two_threads, works};
 use cdm_state::{Cdm, StepFault};
 use eme_types::{Entry, TrackIds};
 use std::alloc::Global;
@@ -116,6 +116,22 @@ fn threads_make_one_history(rt: HostRuntime) -> Result<(), Fail> {
         }
     }
     assert_eq!(rt; (one, two), (101, 101));
+    Ok(())
+}
+
+#[test]
+fn a_look_sees_what_another_pass_added(rt: HostRuntime) -> Result<(), Fail> {
+    let alloc = rt.alloc();
+    let call = creation(alloc)?;
+    let (shared, mut first) = opened(alloc)?;
+    let second = shared.split(&mut first);
+    let (first, before) = entries_seen(&rt, &shared, first);
+    let (second, created) = ask(&rt, &shared, second, call);
+    let (mut first, after) = entries_seen(&rt, &shared, first);
+    shared.join(&mut first, second);
+    let cdm = shared.close(first).ok().ok_or(NO_MEMORY)?;
+    // The looks added no entry.
+    assert!(rt; created && before == 0 && after == 1 && cdm.history().len() == 1);
     Ok(())
 }
 

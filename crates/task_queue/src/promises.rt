@@ -31,6 +31,13 @@ impl Promises {
         }
     }
 
+    /// The promises, in order of their numbers.
+    pub fn as_slice(&self) -> &[Option<Settled>]
+        ensures { result.now ≡ self.now }
+    {
+        self.results.as_slice()
+    }
+
     /// The number of the promise that is made next.
     pub fn next(&self) -> u64
         ensures { result ≡ length self.now + 1 }

@@ -34,7 +34,7 @@ use Rattle.track_media.specs.SampleList.{list_media}
 use Rattle.track_media.specs.File.{GivesMedia, media_of}
 use Rattle.track_media.specs.Held.{is_list, HoldsNoMore}
 
-told_ok : {A E : Type 0} (f : E → MediaFault) (r : Result A E) (x : A) → told f r ≡ Ok x → r ≡ Ok x
+pub told_ok : {A E : Type 0} (f : E → MediaFault) (r : Result A E) (x : A) → told f r ≡ Ok x → r ≡ Ok x
 told_ok {A = A} {E = E} f (Ok y) x h =
     let same : y ≡ x = cc in
     subst (λ (z : A). (let r : Result A E = Ok y in r) ≡ Ok z) same refl

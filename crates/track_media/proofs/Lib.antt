@@ -3,5 +3,11 @@ pub mod GatheringLemmas
 pub mod SectionLemmas
 pub mod Standing
 pub mod Sound
-pub mod TopBoxes
+pub mod TopParts
 pub mod Held
+pub mod LineFits
+pub mod ListFront
+pub mod Mp4Front
+pub mod EndOfFront
+pub mod ReaderSteps
+pub mod Ahead

@@ -14,9 +14,8 @@ use Rattle.eme_types.specs.declared.limits.TheConstants.{MAX_TRACKS, MAX_SAMPLES
 use Rattle.frag_boxes.proofs.Distinct.{distinct_end}
 use Rattle.track_media.specs.declared.line.ListLine.{ListLine}
 use Rattle.track_media.specs.declared.line.ListLine.TheVariants as a
-use Rattle.track_media.specs.ListLine.{Fits}
 use Rattle.track_media.specs.Gathering.{Gathering, added, finished, pushed, with_sample, empty_part, open_fragment, fragments_at, nothing}
-use Rattle.track_media.proofs.Standing.{not_true}
+use Rattle.track_media.proofs.LineFits.{Fits, not_true}
 
 abbrev pub part_formed : TrackPart → Bool
 part_formed p = list_all is_well_formed p.samples

@@ -1,6 +1,6 @@
 -- What is gathered after some lines is what the lines are.
-use Rattle.std.proofs.Common.{◌≡◌, ℕ, ◌+◌, ◌-◌, inl, inr, List, [], ◌∷◌, ◌++◌, Bool, true, false, refl, ap, sym, ◌∙◌, map, filter, length, arith, length-append, subst, eq-eqb}
-use Rattle.std.specs.Prelude.{Result, Ok, Err, ◌==◌, ◌||◌, not}
+use Rattle.std.proofs.Common.{◌≡◌, ℕ, ◌-◌, inl, inr, List, [], ◌∷◌, ◌++◌, Bool, true, false, refl, ap, sym, ◌∙◌, map, filter, length, arith, length-append, subst, eq-eqb}
+use Rattle.std.specs.Prelude.{◌==◌, ◌||◌, not}
 use Rattle.std.specs.List.{list_any, sum_by}
 use Rattle.std.proofs.lemmas.List.{append-nil}
 use Rattle.std.proofs.lemmas.List.Sums.{sum_by-append}
@@ -8,18 +8,15 @@ use Rattle.std.proofs.lemmas.Bool.{and_parts, eqb-true, eqb-false, ne_eqb, cases
 use Rattle.eme_types.specs.declared.sample.EncSample.{EncSample}
 use Rattle.eme_types.specs.declared.media.InitData.{InitData}
 use Rattle.eme_types.specs.declared.media.Fragment.{Fragment}
-use Rattle.eme_types.specs.declared.media.Media.{Media}
 use Rattle.eme_types.specs.declared.media.TrackPart.{TrackPart}
 use Rattle.eme_types.specs.Fed.{is_among, are_distinct, has_samples, sample_bytes}
 use Rattle.eme_types.specs.declared.limits.TheConstants.{MAX_SAMPLES, MAX_SAMPLE_BYTES}
 use Rattle.track_media.specs.declared.line.ListLine.{ListLine}
 use Rattle.track_media.specs.declared.line.ListLine.TheVariants as a
 use Rattle.track_media.specs.declared.line.Known.{Known}
-use Rattle.track_media.specs.ListLine.{Fits, line_in}
-use Rattle.track_media.specs.declared.kind.MediaFault.{MediaFault}
-use Rattle.track_media.specs.SampleList.{tracks_of, inits_of, samples_of, track_samples, is_fragment, sections, part_of, fragment_of, media_from, known_from, lines_from, placed, list_media, ◌>>=◌}
-use Rattle.text_words.specs.Lines.{lines_of}
-use Rattle.track_media.specs.Gathering.{Gathering, added, finished, pushed, with_sample, open_fragment, all_fragments, fragments_at, nothing}
+use Rattle.track_media.proofs.LineFits.{Fits, not_true}
+use Rattle.track_media.specs.SampleList.{tracks_of, inits_of, samples_of, track_samples, is_fragment, sections, part_of, fragment_of, known_from}
+use Rattle.track_media.specs.Gathering.{Gathering, added, pushed, with_sample, open_fragment, all_fragments, fragments_at, nothing}
 use Rattle.track_media.proofs.SectionLemmas.{tracks_of-append, inits_of-append, samples_of-append, track_samples-append, grown, sections_grown, sections_begun, grown_last, begun_at_end}
 
 -- the section that is open, where one is
@@ -90,10 +87,6 @@ others_kept section id s (t ∷ ts) e =
     let head = part_kept section (a.Sample id s) t (other_track id t s (turned t id false both.0)) in
     rw (head, others_kept section id s ts both.1) refl
 
-pub not_true : (b : Bool) → not b ≡ true → b ≡ false
-not_true true e = absurd cc
-not_true false e = refl
-
 pub parts_gained : (section : List ListLine) (id : ℕ) (s : EncSample) (ts : List ℕ) → are_distinct ts ≡ true → pushed id s (map (part_of section) ts) ≡ map (part_of (section ++ a.Sample id s ∷ [])) ts
 parts_gained section id s [] e = refl
 parts_gained section id s (t ∷ ts) e =
@@ -128,15 +121,6 @@ all_are true g whole section e i p =
 
 pub stands_whole : (before : List ListLine) (g : Gathering) (st : Stands before g) → all_fragments g ≡ map (fragment_of g.known.tracks) (sections before)
 stands_whole before g st = all_are g.known.begun g st.whole st.section st.fragments st.inits st.parts ∙ ap (map (fragment_of g.known.tracks)) (sym st.cut)
-
-same_media : (t u : List ℕ) (f h : List Fragment) → t ≡ u → f ≡ h → (let m : Media = record { tracks = t; fragments = f } in m) ≡ record { tracks = u; fragments = h }
-same_media t u f h e k = cc
-
-pub media_stands : (before : List ListLine) (g : Gathering) → Stands before g → media_from before ≡ finished g
-unfolding media_from
-media_stands before g st =
-    let fs : all_fragments g ≡ map (fragment_of (tracks_of before)) (sections before) = stands_whole before g st ∙ ap (λ ts. map (fragment_of ts) (sections before)) st.tracks in
-    sym (same_media g.known.tracks (tracks_of before) (all_fragments g) (map (fragment_of (tracks_of before)) (sections before)) st.tracks fs)
 
 -- ---- one more line
 
@@ -232,48 +216,3 @@ stands_on before g (a.Track id) distinct fits st = track_stands before g id fits
 stands_on before g a.Fragment distinct fits st = fragment_stands before g st
 stands_on before g (a.Init i) distinct fits st = init_stands before g i st
 stands_on before g (a.Sample id s) distinct fits st = sample_stands before g id s distinct st
-
--- ---- the lines up to here
-
--- these lines are left behind some that were gathered; all of them give `total`
-pub record Reads (total : Result (List ListLine) MediaFault) (g : Gathering) (place : ℕ) (left : List (List ℕ)) : Type 0 where
-  pub before : List ListLine
-  pub stands : Stands before g
-  pub all : lines_from before place left ≡ total
-
-pub starts : (left : List (List ℕ)) → Reads (lines_from [] 7 left) nothing 7 left
-starts left = record { before = []; stands = nothing_stands; all = refl }
-
-read_as : (before : List ListLine) (g : Gathering) (place : ℕ) (text : List ℕ) (r : Result ListLine MediaFault) → Stands before g → placed place (line_in g.known text) ≡ r → placed place (line_in (known_from before) text) ≡ r
-read_as before g place text r st e = subst (λ (k : Known). placed place (line_in k text) ≡ r) (known_is before g st) e
-
-pub reads_on : (total : Result (List ListLine) MediaFault) (g : Gathering) (place : ℕ) (text : List ℕ) (left : List (List ℕ)) (x : ListLine) → are_distinct g.known.tracks ≡ true → Fits g.known x → placed place (line_in g.known text) ≡ Ok x → Reads total g place (text ∷ left) → Reads total (added g x) (place + length text + 1) left
-unfolding lines_from
-reads_on total g place text left x distinct fits e r =
-    let line = read_as r.before g place text (Ok x) r.stands e in
-    record {
-      before = r.before ++ x ∷ [];
-      stands = stands_on r.before g x distinct fits r.stands;
-      all = sym (ap (λ o. o >>= λ line. lines_from (r.before ++ line ∷ []) (place + length text + 1) left) line) ∙ r.all;
-    }
-
-pub reads_broken : (total : Result (List ListLine) MediaFault) (g : Gathering) (place : ℕ) (text : List ℕ) (left : List (List ℕ)) (f : MediaFault) → placed place (line_in g.known text) ≡ Err f → Reads total g place (text ∷ left) → total ≡ Err f
-unfolding lines_from
-reads_broken total g place text left f e r =
-    sym r.all ∙ ap (λ o. o >>= λ line. lines_from (r.before ++ line ∷ []) (place + length text + 1) left) (read_as r.before g place text (Err f) r.stands e)
-
-pub reads_whole : (total : Result (List ListLine) MediaFault) (g : Gathering) (place : ℕ) → Reads total g place [] → (total >>= λ lines. Ok (media_from lines)) ≡ Ok (finished g)
-unfolding lines_from
-reads_whole total g place r =
-    ap (λ o. o >>= λ lines. Ok (media_from lines)) (sym r.all) ∙ ap (λ m. Ok m) (media_stands r.before g r.stands)
-
--- ---- the whole list
-
-pub list_broken : (text : List ℕ) (g : Gathering) (place : ℕ) (line : List ℕ) (left : List (List ℕ)) (f : MediaFault) → placed place (line_in g.known line) ≡ Err f → Reads (lines_from [] 7 (lines_of text)) g place (line ∷ left) → list_media text ≡ Err f
-unfolding list_media
-list_broken text g place line left f e r =
-    ap (λ o. o >>= λ lines. Ok (media_from lines)) (reads_broken (lines_from [] 7 (lines_of text)) g place line left f e r)
-
-pub list_whole : (text : List ℕ) (g : Gathering) (place : ℕ) → Reads (lines_from [] 7 (lines_of text)) g place [] → list_media text ≡ Ok (finished g)
-unfolding list_media
-list_whole text g place r = reads_whole (lines_from [] 7 (lines_of text)) g place r

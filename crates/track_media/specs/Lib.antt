@@ -3,8 +3,12 @@ pub mod ListLine
 pub mod SampleList
 pub mod Refusals
 pub mod Mp4
-pub mod FileParts
 pub mod File
 pub mod Views
 pub mod Gathering
 pub mod Held
+pub mod Front
+pub mod Reader
+pub mod Rests
+pub mod SectionViews
+pub mod RestViews

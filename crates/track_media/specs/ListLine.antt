@@ -1,5 +1,5 @@
 -- What one line of a sample list is, or the first rule that it breaks.
-use Rattle.std.specs.Prelude.{◌≡◌, ◌≤◌, ◌<◌, ℕ, ◌==◌, nat_lt, Bool, true, false, not, if◌then◌else◌, List, [], ◌∷◌, length, codes, Option, Some, None, Result, Ok, Err, bytes_eq}
+use Rattle.std.specs.Prelude.{◌≡◌, ℕ, ◌==◌, nat_lt, Bool, not, if◌then◌else◌, List, [], ◌∷◌, length, codes, Option, Some, None, Result, Ok, Err, bytes_eq}
 use Rattle.eme_types.specs.FirstFault as first
 use Rattle.eme_types.specs.FirstFault.{◌>>=◌}
 use Rattle.eme_types.specs.declared.sample.EncSample.{EncSample}
@@ -7,7 +7,6 @@ use Rattle.eme_types.specs.declared.sample.Scheme.{Scheme}
 use Rattle.eme_types.specs.declared.sample.Scheme.TheVariants.{Cenc, Cbcs}
 use Rattle.eme_types.specs.Fed.{is_among}
 use Rattle.eme_types.specs.declared.limits.TheConstants.{MAX_TRACKS}
-use Rattle.eme_types.specs.WellFormed.{is_well_formed}
 use Rattle.pattern_map.specs.declared.check.SampleFault.{SampleFault}
 use Rattle.pattern_map.specs.declared.check.SampleFault.TheVariants as unfit
 use Rattle.pattern_map.specs.SampleFaults.{first_fault}
@@ -193,10 +192,3 @@ verb_line known (verb ∷ words) =
 -- a line without a word, or with two spaces together or a space at an end, has none of the forms
 unfoldable pub line_in : Known → List ℕ → Result ListLine LineFault
 line_in known line = if has_empty_word line then broken Line else verb_line known (words_of line)
-
--- what every line that is not refused keeps
-abbrev pub Fits : Known → ListLine → Type 0
-Fits known (a.Track id) = (known.begun ≡ false) × (is_among known.tracks id ≡ false) × (length known.tracks < MAX_TRACKS)
-Fits known a.Fragment = Unit {0}
-Fits known (a.Init init) = known.begun ≡ true
-Fits known (a.Sample id sample) = (known.begun ≡ true) × (is_among known.tracks id ≡ true) × (is_well_formed sample ≡ true) × (0 < known.samples) × (length sample.bytes ≤ known.bytes)

@@ -1,32 +1,31 @@
 // What is gathered of a sample list.
-ghost use Rattle.std.specs.Prelude.{◌≡◌, ◌-◌, [], ◌∷◌, ◌++◌, map, filter, position, length, true, IfOk, OnOk};
+ghost use Rattle.std.specs.Prelude.{◌≡◌, ◌-◌, [], map, filter, position, false, IfOk, OnOk};
 ghost use Rattle.eme_types.specs.Fed.{has_samples};
 ghost use Rattle.track_media.specs.Gathering.{nothing, pushed, is_of, empty_part, less_room};
 
 use crate::line::{Known, ListLine};
 use eme_types::{
-    EncSample, Fragment, Fragments, Inits, MAX_SAMPLE_BYTES, MAX_SAMPLES, Media, Parts, Samples,
-    TrackIds, TrackPart,
+    Copies, EncSample, Fragment, Inits, MAX_SAMPLE_BYTES, MAX_SAMPLES, Parts, Samples, TrackIds,
+    TrackPart,
 };
 use std::alloc::{AllocError, Global};
 use std::marker::Model;
-use std::mem;
 
-/// The tracks, the fragments that are whole, and the open fragment with one part for each track.
+/// What the lines have to know, and the open section with one part for each track.
 #[derive(Drop)]
 pub struct Gathered {
     pub known: Known,
-    fragments: Fragments,
     inits: Inits,
     parts: Vec<TrackPart>,
 }
 
 impl Model for Gathered {
+    ghost use Rattle.std.specs.Prelude.{[]};
     ghost use Rattle.track_media.specs.Gathering.{Gathering};
 
     ghost Value = { Gathering };
 
-    ghost view = { λ g. record { known = g.known; fragments = g.fragments; inits = g.inits; parts = g.parts.items } };
+    ghost view = { λ g. record { known = g.known; fragments = []; inits = g.inits; parts = g.parts.items } };
 }
 
 /// The parts that have samples, in order.
@@ -85,7 +84,9 @@ impl Known {
 }
 
 impl Gathered {
-    ghost use Rattle.track_media.specs.Gathering.{nothing, added, finished, all_fragments, empty_part};
+    ghost use Rattle.track_media.specs.Gathering.{nothing, added, open_fragment};
+    ghost use Rattle.track_media.specs.SampleList.{is_fragment};
+    ghost use Rattle.track_media.specs.Rests.{section_of};
 
     /// Nothing yet.
     pub fn new(alloc: Global) -> Gathered
@@ -98,44 +99,57 @@ impl Gathered {
                 samples: MAX_SAMPLES,
                 bytes: MAX_SAMPLE_BYTES,
             },
-            fragments: Fragments::new(alloc),
             inits: Inits::new(alloc),
             parts: Vec::new(alloc),
         }
     }
 
-    /// The open fragment is whole.
-    fn close(&mut self, alloc: Global) -> Result<(), AllocError>
-        ensures known { self.new.known ≡ self.old.known }
-        ensures fragments { OnOk result (self.new.fragments ≡ all_fragments self.old) }
+    /// Nothing yet of the section behind a `fragment` line.
+    pub fn section(alloc: Global, known: &Known) -> Result<Gathered, AllocError>
+        ensures { IfOk result (λ g. g ≡ section_of known.now) }
     {
-        if !self.known.begun {
-            return Ok(());
-        }
-        let inits = mem::replace(&mut self.inits, Inits::new(alloc));
-        let parts = mem::replace(&mut self.parts, Vec::new(alloc));
+        let tracks = known.tracks.copy()?;
+        let parts = empty_parts(alloc, known.tracks.as_slice())?;
+        Ok(Gathered {
+            known: Known {
+                tracks,
+                begun: known.begun,
+                samples: known.samples,
+                bytes: known.bytes,
+            },
+            inits: Inits::new(alloc),
+            parts,
+        })
+    }
+
+    /// What the lines behind have to know.
+    pub fn into_known(self) -> Known
+        ensures { result ≡ self.known }
+    {
+        self.known
+    }
+
+    /// The open fragment, and what the lines behind it have to know.
+    pub fn into_fragment(self, alloc: Global) -> Result<(Fragment, Known), AllocError>
+        ensures { IfOk result (λ x. x ≡ (open_fragment self, self.known)) }
+    {
+        let Gathered {
+            known,
+            inits,
+            parts,
+        } = self;
         let parts = kept(alloc, parts)?;
-        self.fragments.push(Fragment { inits, parts })
+        Ok((Fragment { inits, parts }, known))
     }
 
-    /// A fragment begins.
-    fn begin(&mut self, alloc: Global) -> Result<(), AllocError>
-        ensures { OnOk result (self.new ≡ record { known = record self.old.known { begun = true }; fragments = all_fragments self.old; inits = []; parts = map empty_part self.old.known.tracks }) }
-    {
-        self.close(alloc)?;
-        self.known.begun = true;
-        self.inits = Inits::new(alloc);
-        self.parts = empty_parts(alloc, self.known.tracks.as_slice())?;
-        Ok(())
-    }
-
-    /// Adds a line.
-    pub fn add(&mut self, alloc: Global, line: ListLine) -> Result<(), AllocError>
+    /// Adds a line of the section.
+    pub fn add(&mut self, line: ListLine) -> Result<(), AllocError>
+        requires { is_fragment line ≡ false }
         ensures { OnOk result (self.new ≡ added self.old line) }
     {
         match line {
             ListLine::Track(id) => self.known.tracks.push(id),
-            ListLine::Fragment => self.begin(alloc),
+            ListLine::Fragment => Ok(()),
             ListLine::Init(init) => self.inits.push(init),
             ListLine::Sample(id, sample) => {
                 let bytes = sample.bytes.len() as u64;
@@ -144,16 +158,5 @@ impl Gathered {
                 Ok(())
             }
         }
-    }
-
-    /// The media of all lines.
-    pub fn finish(mut self, alloc: Global) -> Result<Media, AllocError>
-        ensures { IfOk result (λ m. m ≡ finished self) }
-    {
-        self.close(alloc)?;
-        Ok(Media {
-            tracks: self.known.tracks,
-            fragments: self.fragments,
-        })
     }
 }

@@ -5,11 +5,12 @@ mod file;
 mod gathering;
 mod kind;
 mod line;
-mod list;
-mod mp4;
+mod list_reader;
+mod mp4_reader;
 #[cfg(test)]
 mod mp4_tests;
 mod number;
+mod reader;
 mod refusals;
 mod room;
 mod sample;
@@ -20,3 +21,4 @@ mod words;
 
 pub use file::parse_media;
 pub use kind::{MediaFault, MediaKind};
+pub use reader::{MediaReader, a_file_ends_as_its_front};

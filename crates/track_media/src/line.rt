@@ -1,7 +1,7 @@
 // One line of a sample list.
 ghost use Rattle.std.specs.Prelude.{◌≡◌, length, IfOk, Ok, Err};
 ghost use Rattle.track_media.specs.Text.{words_of};
-ghost use Rattle.track_media.specs.ListLine.{Gives, Fits, track_line, fragment_line, init_line, verb_line, line_in, sample_line};
+ghost use Rattle.track_media.specs.ListLine.{Gives, track_line, fragment_line, init_line, verb_line, line_in, sample_line};
 
 use crate::kind::{LineFault, MediaKind};
 use crate::number::track_id;
@@ -57,8 +57,7 @@ impl Known {
 
 #[tactic(auto, unfolding(crate::specs::ListLine::track_line))]
 fn track_line(known: &Known, words: Pieces<'_>) -> Result<ListLine, LineFault>
-    ensures value { Gives result (track_line known.now words.entry) }
-    ensures fits { IfOk result (Fits known.now) }
+    ensures { Gives result (track_line known.now words.entry) }
 {
     let Some(word) = one_word(words) else {
         return Err(LINE);
@@ -79,8 +78,7 @@ fn track_line(known: &Known, words: Pieces<'_>) -> Result<ListLine, LineFault>
 }
 
 fn fragment_line(known: &Known, mut words: Pieces<'_>) -> Result<ListLine, LineFault>
-    ensures value { Gives result (fragment_line words.entry) }
-    ensures fits { IfOk result (Fits known.now) }
+    ensures { Gives result (fragment_line words.entry) }
 {
     match words.next() {
         None => Ok(ListLine::Fragment),
@@ -90,8 +88,7 @@ fn fragment_line(known: &Known, mut words: Pieces<'_>) -> Result<ListLine, LineF
 
 #[tactic(auto, unfolding(crate::specs::ListLine::init_line))]
 fn init_line(alloc: Global, known: &Known, words: Pieces<'_>) -> Result<ListLine, LineFault>
-    ensures value { Gives result (init_line known.now words.entry) }
-    ensures fits { IfOk result (Fits known.now) }
+    ensures { Gives result (init_line known.now words.entry) }
 {
     let Some((kind, bytes)) = two_words(words) else {
         return Err(LINE);
@@ -111,8 +108,7 @@ fn init_line(alloc: Global, known: &Known, words: Pieces<'_>) -> Result<ListLine
 /// By the line's first word.
 #[tactic(auto, unfolding(crate::specs::ListLine::verb_line))]
 fn verb_line(alloc: Global, known: &Known, mut words: Pieces<'_>) -> Result<ListLine, LineFault>
-    ensures value { Gives result (verb_line known.now words.entry) }
-    ensures fits { IfOk result (Fits known.now) }
+    ensures { Gives result (verb_line known.now words.entry) }
 {
     let Some(verb) = words.next() else {
         return Err(LINE);
@@ -133,8 +129,7 @@ fn verb_line(alloc: Global, known: &Known, mut words: Pieces<'_>) -> Result<List
 /// Reads a line, in the knowledge of those before it.
 #[tactic(auto, unfolding(crate::specs::ListLine::line_in))]
 pub fn read_line(alloc: Global, known: &Known, line: &[u8]) -> Result<ListLine, LineFault>
-    ensures value { Gives result (line_in known.now line.now) }
-    ensures fits { IfOk result (Fits known.now) }
+    ensures { Gives result (line_in known.now line.now) }
 {
     if has_empty_word(line) {
         return Err(LINE);

@@ -1,4 +1,4 @@
-use crate::{MediaFault, MediaKind, parse_media};
+use crate::{MediaFault, MediaKind, MediaReader, parse_media};
 use eme_types::{
     Bytes, Fragment, InitData, InitKind, Items, Iv, Media, Scheme, Sub, Subs, TrackPart,
 };
@@ -272,24 +272,104 @@ fn the_first_broken_box_is_refused(rt: HostRuntime) -> Result<(), Fail> {
     Ok(())
 }
 
-#[test]
-fn one_other_byte_is_refused(rt: HostRuntime) -> Result<(), Fail> {
-    let alloc = rt.alloc();
-    let senc = senc_body(alloc)?;
-    for (at, byte, place, kind) in [
-        // isProtected in the tenc
-        (228, 2, 214, MediaKind::IsProtected),
-        // the types of the movie and of its fragment
-        (7, b'x', 286, MediaKind::NoMoov),
-        (293, b'v', 286, MediaKind::SecondMoov),
-        // the track id in the tfhd, and a size in the trun
-        (317, 2, 302, MediaKind::UnknownTrack),
-        (345, 21, 318, MediaKind::DataPastEnd),
-    ] {
-        let mut file = file_of(alloc, senc.as_slice(), 237)?.into_vec();
-        if let Some(old) = file.get_mut(at) {
-            *old = byte;
+// These bytes in place of others.
+fn patched(alloc: Global, file: &[u8], bytes: &[(usize, u8)]) -> Result<Vec<u8>, Fail> {
+    let mut out = file.to_vec(alloc)?;
+    for (at, byte) in bytes {
+        if let Some(old) = out.get_mut(*at) {
+            *old = *byte;
         }
+    }
+    Ok(out)
+}
+
+// The movie of the file: trak at 8, tkhd at 16, stsd at 64, encv at 80, sinf at 166, schm at 186, schi at 206, tenc at 214, mvex
+// at 246, trex at 254.
+const MOVIE: [(&[(usize, u8)], u64, MediaKind); 15] = [
+    (&[(228, 2)], 214, MediaKind::IsProtected),
+    (&[(229, 7)], 214, MediaKind::IvSize),
+    (&[(198, b'x')], 166, MediaKind::Scheme),
+    (&[(218, b'x')], 166, MediaKind::NoTenc),
+    (&[(20, b'x')], 8, MediaKind::NoTrackId),
+    // the mvex as a second trak, the trex as its tkhd
+    (
+        &[
+            (250, b't'),
+            (251, b'r'),
+            (252, b'a'),
+            (253, b'k'),
+            (259, b'k'),
+            (260, b'h'),
+            (261, b'd'),
+            (277, 1),
+        ],
+        254,
+        MediaKind::SecondTrack,
+    ),
+    (&[(87, b'x')], 80, MediaKind::EntryType),
+    (&[(87, b'a'), (97, 1)], 80, MediaKind::AudioVersion),
+    (&[(170, b'x')], 80, MediaKind::NoSinf),
+    // the stsd as an stsz
+    (&[(71, b'z')], 64, MediaKind::Progressive),
+    (&[(258, b'x')], 302, MediaKind::NoTrex),
+    (&[(273, 2)], 302, MediaKind::Description),
+    (&[(7, b'x')], 286, MediaKind::NoMoov),
+    (&[(293, b'v')], 286, MediaKind::SecondMoov),
+    (&[(289, 7)], 286, MediaKind::SizeTooSmall),
+];
+
+// Its movie fragment: traf at 294, tfhd at 302, trun at 318, sbgp at 346, sgpd at 382, senc at 430, saiz at 472, saio at 491, and
+// the mdat at 515.
+const FRAGMENT: [(&[(usize, u8)], u64, MediaKind); 16] = [
+    (&[(518, 31)], 515, MediaKind::PastEnd),
+    (&[(333, 3)], 318, MediaKind::Short),
+    (&[(390, 2)], 382, MediaKind::Version),
+    (&[(413, 7)], 382, MediaKind::IvSize),
+    // cbcs with a pattern that skips one block and encrypts none
+    (
+        &[(199, b'b'), (200, b'c'), (201, b's'), (411, 1)],
+        430,
+        MediaKind::Pattern,
+    ),
+    (&[(445, 3)], 430, MediaKind::CountDiffers),
+    (&[(306, b'x')], 294, MediaKind::NoTfhd),
+    (&[(317, 2)], 302, MediaKind::UnknownTrack),
+    // samples without sizes of their own, one more than the limit
+    (
+        &[(328, 0), (331, 16), (333, 1)],
+        318,
+        MediaKind::TooManySamples,
+    ),
+    (&[(342, 5)], 318, MediaKind::TooManyBytes),
+    (&[(345, 21)], 318, MediaKind::DataPastEnd),
+    (&[(381, 2)], 346, MediaKind::GroupIndex),
+    // without the senc
+    (&[(434, b'x'), (490, 23)], 472, MediaKind::AuxSize),
+    (&[(434, b'x'), (511, 1)], 491, MediaKind::OffsetPastEnd),
+    (&[(434, b'x'), (476, b'x')], 294, MediaKind::NoAux),
+    (&[(471, 15)], 430, MediaKind::SubsSum),
+];
+
+#[test]
+fn each_rule_of_a_movie_is_told_with_its_place(rt: HostRuntime) -> Result<(), Fail> {
+    let alloc = rt.alloc();
+    let good = file_of(alloc, senc_body(alloc)?.as_slice(), 237)?;
+    for (bytes, place, kind) in MOVIE {
+        let file = patched(alloc, good.as_slice(), bytes)?;
+        assert!(rt;
+            is_refused(alloc, file.as_slice(), place, kind),
+            "{kind:?} at {place}"
+        );
+    }
+    Ok(())
+}
+
+#[test]
+fn each_rule_of_a_fragment_is_told_with_its_place(rt: HostRuntime) -> Result<(), Fail> {
+    let alloc = rt.alloc();
+    let good = file_of(alloc, senc_body(alloc)?.as_slice(), 237)?;
+    for (bytes, place, kind) in FRAGMENT {
+        let file = patched(alloc, good.as_slice(), bytes)?;
         assert!(rt;
             is_refused(alloc, file.as_slice(), place, kind),
             "{kind:?} at {place}"
@@ -339,5 +419,61 @@ fn a_file_that_is_cut_is_refused(rt: HostRuntime) -> Result<(), Fail> {
         let good = parse_media(alloc, &bytes[..n]).is_ok();
         assert!(rt; good == (n == 0 || n == 286), "cut after {n} bytes");
     }
+    Ok(())
+}
+
+fn is_refused_next(reader: &mut MediaReader<'_>, place: u64, kind: MediaKind) -> bool {
+    match reader.next_fragment() {
+        Err(fault) => fault == MediaFault::Refused { place, kind },
+        Ok(_) => false,
+    }
+}
+
+fn is_given_next(reader: &mut MediaReader<'_>, inits: &[&[u8]]) -> Result<bool, Fail> {
+    match reader.next_fragment()? {
+        Some(fragment) => Ok(is_the_fragment(&fragment, inits)),
+        None => Ok(false),
+    }
+}
+
+fn is_at_end(reader: &mut MediaReader<'_>) -> Result<bool, Fail> {
+    Ok(reader.next_fragment()?.is_none())
+}
+
+// The two fragments of a file, the second with its data so far behind it.
+fn two_fragments(alloc: Global, data: u32) -> Result<Bytes, Fail> {
+    let senc = senc_body(alloc)?;
+    let senc = (*b"senc", senc.as_slice());
+    let mut file = Bytes::new(alloc);
+    put_movie(alloc, &mut file, b"\0\0\0\x09psshA", b"")?;
+    put_fragment(alloc, &mut file, senc, 245, b"\0\0\0\x08pssh")?;
+    put_fragment(alloc, &mut file, senc, data, b"")?;
+    Ok(file)
+}
+
+#[test]
+fn fragments_are_read_one_by_one(rt: HostRuntime) -> Result<(), Fail> {
+    let file = two_fragments(rt.alloc(), 237)?;
+    let mut reader = MediaReader::open(rt.alloc(), file.as_slice())?;
+    assert_eq!(rt; reader.tracks().as_slice(), [1].as_slice());
+    let first = [b"\0\0\0\x09psshA".as_slice(), b"\0\0\0\x08pssh"];
+    assert!(rt; is_given_next(&mut reader, &first)?);
+    assert!(rt; is_given_next(&mut reader, &[])?);
+    assert!(rt; is_at_end(&mut reader)?);
+    assert!(rt; is_at_end(&mut reader)?);
+    Ok(())
+}
+
+// The second moof stands at 562, behind a movie of 295 bytes, the first moof of 237 and its mdat of 30; its trun at 594.
+#[test]
+fn the_fragments_before_a_broken_one_are_given(rt: HostRuntime) -> Result<(), Fail> {
+    let file = two_fragments(rt.alloc(), 238)?;
+    let kind = MediaKind::DataPastEnd;
+    assert!(rt; is_refused(rt.alloc(), file.as_slice(), 594, kind));
+    let mut reader = MediaReader::open(rt.alloc(), file.as_slice())?;
+    let first = [b"\0\0\0\x09psshA".as_slice(), b"\0\0\0\x08pssh"];
+    assert!(rt; is_given_next(&mut reader, &first)?);
+    assert!(rt; is_refused_next(&mut reader, 594, kind));
+    assert!(rt; is_refused_next(&mut reader, 594, kind));
     Ok(())
 }

@@ -2,7 +2,7 @@
 ghost use Rattle.std.specs.Prelude.{◌≡◌, ◌-◌};
 ghost use Rattle.std.specs.List.{sum_by};
 ghost use Rattle.eme_types.specs.Fed.{part_samples, sample_bytes, part_bytes};
-ghost use Rattle.track_media.specs.FileParts.{less_room};
+ghost use Rattle.track_media.specs.Rests.{less_room};
 
 use eme_types::{EncSample, Fragment, TrackPart};
 use sample_aux::Room;

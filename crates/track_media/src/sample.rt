@@ -1,6 +1,6 @@
 // A sample line.
 ghost use Rattle.std.specs.Prelude.{◌≡◌, ◌≤◌, ◌<◌, length, IfOk, Ok, Err};
-ghost use Rattle.track_media.specs.ListLine.{Gives, Fits, kind_of, sample_data, formed, clear_line, protected_line, cenc_line, cbcs_line, scheme_line, sample_line, known_track};
+ghost use Rattle.track_media.specs.ListLine.{Gives, kind_of, sample_data, formed, clear_line, protected_line, cenc_line, cbcs_line, scheme_line, sample_line, known_track};
 ghost use Rattle.eme_types.specs.Fed.{is_among};
 ghost use Rattle.std.specs.Prelude.{true};
 ghost use Rattle.track_media.specs.Views.{protection_of};
@@ -17,8 +17,7 @@ use text_words::Pieces;
 /// The data of a sample, for which there has to be room.
 #[tactic(auto, unfolding(crate::specs::ListLine::sample_data))]
 fn sample_data(alloc: Global, known: &Known, word: &[u8]) -> Result<Bytes, LineFault>
-    ensures value { Gives result (sample_data known.now word.now) }
-    ensures room { IfOk result (λ bytes. (0 < known.now.samples) × (length bytes ≤ known.now.bytes)) }
+    ensures { Gives result (sample_data known.now word.now) }
 {
     let Some(bytes) = data_in(alloc, word)? else {
         return Err(LineFault::Broken(MediaKind::Hex));
@@ -43,12 +42,8 @@ fn kind_of(fault: SampleFault) -> MediaKind
 }
 
 /// A sample that is well formed.
-fn formed(known: &Known, id: u32, sample: EncSample) -> Result<ListLine, LineFault>
-    requires begun { known.now.begun ≡ true }
-    requires track { is_among known.now.tracks id ≡ true }
-    requires room { (0 < known.now.samples) × (length sample.bytes ≤ known.now.bytes) }
-    ensures value { Gives result (formed id sample) }
-    ensures fits { IfOk result (Fits known.now) }
+fn formed(id: u32, sample: EncSample) -> Result<ListLine, LineFault>
+    ensures { Gives result (formed id sample) }
 {
     match check_sample(&sample) {
         Ok(()) => Ok(ListLine::Sample(id, sample)),
@@ -64,8 +59,7 @@ fn clear_line(
     words: Pieces<'_>,
 ) -> Result<ListLine, LineFault>
     requires { known.now.begun ≡ true }
-    ensures value { Gives result (clear_line known.now id words.entry) }
-    ensures fits { IfOk result (Fits known.now) }
+    ensures { Gives result (clear_line known.now id words.entry) }
 {
     let Some(word) = one_word(words) else {
         return Err(LINE);
@@ -78,7 +72,7 @@ fn clear_line(
         protect: None,
         bytes,
     };
-    formed(known, id, sample)
+    formed(id, sample)
 }
 
 #[tactic(auto, unfolding(crate::specs::ListLine::protected_line))]
@@ -90,8 +84,7 @@ fn protected_line(
     words: &Protected<'_>,
 ) -> Result<ListLine, LineFault>
     requires { known.now.begun ≡ true }
-    ensures value { Gives result (protected_line known.now id mode (protection_of words.now)) }
-    ensures fits { IfOk result (Fits known.now) }
+    ensures { Gives result (protected_line known.now id mode (protection_of words.now)) }
 {
     let Some(subs) = subs_in(alloc, words.subs)? else {
         return Err(LINE);
@@ -118,7 +111,7 @@ fn protected_line(
         protect: Some(protect),
         bytes,
     };
-    formed(known, id, sample)
+    formed(id, sample)
 }
 
 #[tactic(auto, unfolding(crate::specs::ListLine::cenc_line))]
@@ -129,8 +122,7 @@ fn cenc_line(
     words: Pieces<'_>,
 ) -> Result<ListLine, LineFault>
     requires { known.now.begun ≡ true }
-    ensures value { Gives result (cenc_line known.now id words.entry) }
-    ensures fits { IfOk result (Fits known.now) }
+    ensures { Gives result (cenc_line known.now id words.entry) }
 {
     let Some(words) = four_words(words) else {
         return Err(LINE);
@@ -151,8 +143,7 @@ fn cbcs_line(
     words: Pieces<'_>,
 ) -> Result<ListLine, LineFault>
     requires { known.now.begun ≡ true }
-    ensures value { Gives result (cbcs_line known.now id words.entry) }
-    ensures fits { IfOk result (Fits known.now) }
+    ensures { Gives result (cbcs_line known.now id words.entry) }
 {
     let Some((words, pattern)) = five_words(words) else {
         return Err(LINE);
@@ -178,8 +169,7 @@ fn scheme_line(
     words: Pieces<'_>,
 ) -> Result<ListLine, LineFault>
     requires { known.now.begun ≡ true }
-    ensures value { Gives result (scheme_line known.now id scheme.now words.entry) }
-    ensures fits { IfOk result (Fits known.now) }
+    ensures { Gives result (scheme_line known.now id scheme.now words.entry) }
 {
     if scheme == b"clear".as_slice() {
         clear_line(alloc, known, id, words)
@@ -199,8 +189,7 @@ pub fn sample_line(
     known: &Known,
     mut words: Pieces<'_>,
 ) -> Result<ListLine, LineFault>
-    ensures value { Gives result (sample_line known.now words.entry) }
-    ensures fits { IfOk result (Fits known.now) }
+    ensures { Gives result (sample_line known.now words.entry) }
 {
     let Some(word) = words.next() else {
         return Err(LINE);

@@ -1,4 +1,4 @@
-use crate::{MediaFault, MediaKind, parse_media};
+use crate::{MediaFault, MediaKind, MediaReader, parse_media};
 use eme_types::{EncSample, Iv, Scheme};
 use std::test::Fail;
 
@@ -145,6 +145,44 @@ fn a_key_id_has_1_to_512_bytes(rt: HostRuntime) -> Result<(), Fail> {
                 let kind = MediaKind::Kid;
                 assert_eq!(rt; fault, MediaFault::Refused { place: 24, kind });
             }
+        }
+    }
+    Ok(())
+}
+
+#[test]
+fn sections_are_read_one_by_one(rt: HostRuntime) -> Result<(), Fail> {
+    let text =
+        b"SMPL 1\ntrack 1\nfragment\nsample 1 cenc 000102030405060708090a0b0c0d0e0f f0f1f2f3f4f5f6f7f8f9fafbfcfdfeff - 874d6191b620e3261bef6864990db6ce\nfragment\nsample 2 clear 00\n";
+    let mut reader = MediaReader::open(rt.alloc(), text)?;
+    assert_eq!(rt; reader.tracks().as_slice(), [1].as_slice());
+    match reader.next_fragment()? {
+        Some(fragment) => assert_eq!(rt; fragment.parts.len(), 1),
+        None => assert!(rt; false, "no fragment"),
+    }
+    let (place, kind) = (148, MediaKind::TrackId);
+    for _ in 0..2 {
+        match reader.next_fragment() {
+            Ok(_) => assert!(rt; false, "accepted"),
+            Err(fault) => assert_eq!(rt; fault, MediaFault::Refused { place, kind }),
+        }
+    }
+    Ok(())
+}
+
+#[test]
+fn a_rule_broken_before_the_tracks_refuses_the_file(rt: HostRuntime) -> Result<(), Fail> {
+    for (file, place, kind) in [
+        (
+            b"SMPL 1\ntrack 1\ntrack 1\n".as_slice(),
+            15,
+            MediaKind::TrackId,
+        ),
+        (b"\0\0\0\x08free\0\0\0\x08moof", 8, MediaKind::NoMoov),
+    ] {
+        match MediaReader::open(rt.alloc(), file) {
+            Ok(_) => assert!(rt; false, "accepted"),
+            Err(fault) => assert_eq!(rt; fault, MediaFault::Refused { place, kind }),
         }
     }
     Ok(())

@@ -1,9 +1,8 @@
 // A box at the top level of an MP4 file.
-ghost use Rattle.std.specs.Prelude.{◌≡◌, ◌+◌, ◌<◌, ◌^◌, length, IfOk};
+ghost use Rattle.std.specs.Prelude.{◌≡◌, ◌+◌, ◌<◌, ◌^◌, length};
 ghost use Rattle.iso_boxes.specs.Walk.{found};
-ghost use Rattle.frag_boxes.specs.Tracks.{HasTracks};
 ghost use Rattle.track_media.specs.File.{GivesMedia};
-ghost use Rattle.track_media.specs.FileParts.{HasIds, IsWithin, Fits};
+ghost use Rattle.track_media.specs.Rests.{behind_movie};
 ghost use Rattle.track_media.specs.Mp4.{top_box, movie_at, fragment_at, top_part_at};
 
 use crate::kind::{MediaFault, MediaKind};
@@ -60,9 +59,7 @@ fn top_box(kind: [u8; 4]) -> TopBox
 #[tactic(auto, unfolding(crate::specs::Mp4::movie_at))]
 fn read_movie(alloc: Global, file: &[u8], at: &BoxRef<'_>) -> Result<KnownMovie, MediaFault>
     requires { at.now.body_place + length at.now.body.now < 2 ^ 64 }
-    ensures value { GivesMedia result (movie_at file.now (found at.now)) }
-    ensures tracks { IfOk result (λ m. HasTracks m.movie) }
-    ensures ids { IfOk result (λ m. HasIds m) }
+    ensures { GivesMedia result (movie_at file.now (found at.now)) }
 {
     let movie = read_moov(alloc, at)?;
     let protection = read_protection(alloc, file, &movie)?;
@@ -78,12 +75,35 @@ fn read_fragment(
     at: &BoxRef<'_>,
 ) -> Result<Fragment, MediaFault>
     requires { at.now.body_place + length at.now.body.now < 2 ^ 64 }
-    ensures value { GivesMedia result (fragment_at file.now movie.now room (found at.now)) }
-    ensures within { IfOk result (λ f. IsWithin room movie.now f) }
+    ensures { GivesMedia result (fragment_at file.now movie.now room (found at.now)) }
 {
     let moof = read_moof(alloc, at)?;
     let fragment = resolve_known(alloc, file, &movie.protection, &moof, room)?;
     Ok(fragment)
+}
+
+/// Reads a box behind the movie: a fragment, or nothing.
+pub fn read_behind_movie(
+    alloc: Global,
+    file: &[u8],
+    movie: &KnownMovie,
+    room: Room,
+    at: &BoxRef<'_>,
+) -> Result<Option<Fragment>, MediaFault>
+    requires { at.now.body_place + length at.now.body.now < 2 ^ 64 }
+    ensures { GivesMedia result (behind_movie file.now movie.now room (found at.now)) }
+{
+    match top_box(at.kind) {
+        TopBox::Moov => Err(MediaFault::Refused {
+            place: at.place,
+            kind: MediaKind::SecondMoov,
+        }),
+        TopBox::Moof => {
+            let fragment = read_fragment(alloc, file, movie, room, at)?;
+            Ok(Some(fragment))
+        }
+        TopBox::Other => Ok(None),
+    }
 }
 
 /// Reads a box, in the knowledge of those before it.
@@ -94,8 +114,7 @@ pub fn read_top_part(
     at: &BoxRef<'_>,
 ) -> Result<TopPart, MediaFault>
     requires { at.now.body_place + length at.now.body.now < 2 ^ 64 }
-    ensures value { GivesMedia result (top_part_at file.now seen.now (found at.now)) }
-    ensures fits { IfOk result (Fits seen.now) }
+    ensures { GivesMedia result (top_part_at file.now seen.now (found at.now)) }
 {
     let refused = |kind| MediaFault::Refused {
         place: at.place,

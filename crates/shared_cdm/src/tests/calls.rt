@@ -1,6 +1,6 @@
 //! Calls with passes, and two threads that make them.
-ghost use Rattle.std.specs.Prelude.{◌≡◌, ◌<◌};
-ghost use Rattle.shared_cdm.specs.Passes.{IsOf, parts, first_of};
+ghost use Rattle.std.specs.Prelude.{◌≡◌, ◌<◌, length};
+ghost use Rattle.shared_cdm.specs.Passes.{IsOf, seen, own, parts, first_of};
 
 use crate::shared::SharedCdm;
 use book_lock::Pass;
@@ -67,6 +67,22 @@ pub fn job<R: Wait>(
     ensures { IsOf shared.now result.0 × (parts result.0 ≡ parts pass) }
 {
     shared.job(rt, pass)
+}
+
+/// How many entries the core has that the pass looks at.
+pub fn entries_seen<R: Wait>(rt: &R, shared: &SharedCdm, pass: Pass<Cdm>) -> (Pass<Cdm>, usize)
+    requires { IsOf shared.now pass }
+    ensures of { IsOf shared.now result.0 × (parts result.0 ≡ parts pass) }
+    ensures own { own result.0 ≡ own pass }
+    ensures seen { result.1 ≡ length (seen result.0) }
+{
+    shared.look(
+        rt,
+        pass,
+        |cdm: &Cdm| -> usize
+            ensures { result ≡ length cdm.now.history }
+        { cdm.history().len() },
+    )
 }
 
 /// A worker at the desk; answers whether it has ended because the desk is over.

@@ -10,7 +10,7 @@ invariant_of-self-2 c =
     let plan = c.in_ok-plan.plan in
     let is : IsCallPlan c.args.call.now m.sessions (length m.promises + 1) plan = rw (c.deref.ensures.value, c.next-promise.ensures) at c.in_ok-plan.ensures in
     let next = call_state m c.args.call.now plan _ c.give_answer.new.promises c.give_answer.new.jobs.0 c.in_ok-effects.effects is (rw (c.add_session.ensures, c.reserve.ensures.items) at c.change_session.ensures.states) (rw (c.in_ok-make.ensures.ok, c.next-promise.ensures) at c.give_answer.ensures.promises) (rw c.reserve-2.ensures.items at c.give_answer.ensures.jobs) (rw c.next-promise.ensures at c.in_ok-effects.ensures) in
-    kept_call m _ c.args.call.now c.in_ok-effects.effects c.self.inside.room c.self.inside.tasks.1 c.self.invariant next
+    kept_call m _ c.args.call.now c.in_ok-effects.effects c.self.inside.index c.self.inside.room c.self.inside.tasks.1 c.self.invariant next
 
 pub returns-clause-ok : goal.returns-clause-ok
 returns-clause-ok c =

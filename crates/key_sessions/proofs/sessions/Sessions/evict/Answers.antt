@@ -15,7 +15,7 @@ invariant_of-self-2 c =
     let found : open_number (find_label m c.args.label.now) ≡ Some n = search rules in
     let next = evict_state m c.args.label.now n _ c.put.new.self.0 found c.change_session.ensures.states (rw c.reserve.ensures.items at c.put.ensures.items) in
     let le : c.self.inside.room ≤ c.put.new.self.1 = omega (arith, c.in_ok-wanted.ensures, c.in_ok-reserve.ensures.ok, c.put.ensures.spare) in
-    kept_evict m _ c.args.label.now n (Some Evicted) c.self.inside.room c.self.inside.tasks.1 c.put.new.self.1 c.self.invariant c.change_session.ensures.states next le
+    kept_evict m _ c.args.label.now n (Some Evicted) c.self.inside.index c.index_change.new.index c.self.inside.room c.self.inside.tasks.1 c.put.new.self.1 c.self.invariant c.change_session.ensures.states next le (search rules)
 
 pub returns-clause-ok : goal.returns-clause-ok
 returns-clause-ok c =

@@ -12,4 +12,5 @@ invariant_of-self c = record {
   owed = λ p. rw c.put.ensures.items (omega (arith, c.self.invariant.owed p, tasks_more p c.self.inside.tasks.0 (Fire c.args.event ∷ [])));
   there = there_more (machine_of c.self.inside) _ c.self.invariant.there (omega arith) (λ job at. inl at) (λ task at. last_task (length (map session_of c.self.inside.items.items)) c.self.inside.tasks.0 (Fire c.args.event) tt task (rw c.put.ensures.items at at));
   reserved = omega (arith, c.self.invariant.reserved, c.put.ensures.spare);
+  indexed = c.self.invariant.indexed;
 }

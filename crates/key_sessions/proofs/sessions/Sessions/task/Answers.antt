@@ -20,7 +20,7 @@ invariant_of-self-2 c =
     let next = task_state m c.in-Some.task.now (drop 1 m.tasks) plan _ c.put_all.new.self.0 _ _ c.in-Some.ensures is c.change_session.ensures.states (rw (c.drop_front.ensures.items, c.reserve-2.ensures.items) at c.put_all.ensures.items) c.settle_promise.ensures (rw c.reserve.ensures.items at c.fire_event.ensures) in
     let wanted : c.in_ok-wanted.wanted ≡ c.self.inside.room + length plan.queued.items = search rules in
     let le : c.self.inside.room ≤ c.put_all.new.self.1 = omega (arith, wanted, c.in_ok-reserve-2.ensures.ok, c.drop_front.ensures.spare, c.put_all.ensures.spare) in
-    kept_task m _ plan.session plan.change plan.effects c.self.inside.room c.self.inside.tasks.1 c.put_all.new.self.1 c.self.invariant c.change_session.ensures.states next le
+    kept_task m _ plan.session plan.change plan.effects c.self.inside.index c.self.inside.room c.self.inside.tasks.1 c.put_all.new.self.1 c.self.invariant c.change_session.ensures.states next le
 
 pub returns-clause-ok : goal.returns-clause-ok
 returns-clause-ok c =

@@ -1,0 +1,12 @@
+pub mod Moments
+pub mod Shut
+pub mod Listed
+pub mod Found
+pub mod Broken
+pub mod Vaults
+pub mod Committed
+pub mod Reading
+pub mod Alike
+pub mod Prefix
+pub mod Lists
+pub mod Once

@@ -1,0 +1,13 @@
+pub mod Label
+pub mod Bytes
+pub mod Records
+pub mod Rules
+pub mod File
+pub mod Gates
+pub mod Told
+pub mod Crash
+pub mod Texts
+pub mod Opening
+pub mod Served
+pub mod Serving
+pub mod Readings

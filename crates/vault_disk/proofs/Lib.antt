@@ -1,0 +1,4 @@
+pub mod Puts
+pub mod Replay
+pub mod Moments
+pub mod Written
