@@ -4,3 +4,4 @@ pub mod Calls
 pub mod Memory
 pub mod View
 pub mod Host
+pub mod Words

@@ -23,7 +23,7 @@ use Rattle.player_cli.specs.declared.end.End.{End}
 use Rattle.player_cli.specs.declared.end.End.TheVariants.{Whole, Refused, Stopped}
 use Rattle.player_cli.specs.declared.outcome.Outcome.{Outcome}
 use Rattle.player_cli.specs.declared.outcome.Outcome.TheVariants.{OutOfMemory}
-use Rattle.player_cli.specs.declared.outcome.UsageFault.{UsageFault}
+use Rattle.eme_edge.specs.declared.words.UsageFault.{UsageFault}
 use Rattle.player_cli.specs.declared.outcome.Which.{Which}
 use Rattle.player_cli.specs.declared.read.ReadEnd.{ReadEnd}
 use Rattle.player_cli.specs.declared.read.ReadEnd.TheVariants as read

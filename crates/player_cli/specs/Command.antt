@@ -7,9 +7,9 @@ use Rattle.text_words.specs.Fronts.{is_nothing, behind}
 use Rattle.text_words.specs.Numbers.{number_up_to}
 use Rattle.text_words.specs.Hexadecimal.{hex_bytes}
 use Rattle.eme_types.specs.declared.limits.TheConstants.{MAX_WORKERS, MAX_MOMENT}
-use Rattle.player_cli.specs.declared.outcome.UsageKind.{UsageKind}
-use Rattle.player_cli.specs.declared.outcome.UsageKind.TheVariants.{MissingCommand, UnknownCommand, MissingWord, ExtraWord, BadNumber, BadKind, BadHex, EmptyName, NameClash}
-use Rattle.player_cli.specs.declared.outcome.UsageFault.{UsageFault}
+use Rattle.eme_edge.specs.Words.{bad_word}
+use Rattle.eme_edge.specs.declared.words.UsageKind.TheVariants.{MissingCommand, UnknownCommand, MissingWord, ExtraWord, BadNumber, BadKind, BadHex, EmptyName, NameClash}
+use Rattle.eme_edge.specs.declared.words.UsageFault.{UsageFault}
 use Rattle.player_cli.specs.declared.words.PlayWords.{PlayWords}
 use Rattle.player_cli.specs.declared.quiet.RequestWords.{RequestWords}
 use Rattle.player_cli.specs.declared.quiet.DeskWords.{DeskWords}
@@ -46,10 +46,6 @@ pub data Query : Type 0 where
 pub data Asked : Type 0 where
   Play : Names → Asked
   Tell : Query → Asked
-
--- a word at this place is bad
-abbrev pub bad_word : ℕ → UsageKind → UsageFault
-bad_word place kind = record { place = place; kind = kind }
 
 -- ---- the command `play`
 

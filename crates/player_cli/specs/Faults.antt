@@ -7,9 +7,9 @@ use Rattle.track_media.specs.declared.kind.MediaKind.{MediaKind}
 use Rattle.track_media.specs.declared.kind.MediaKind.TheVariants as media
 use Rattle.license_desk.specs.declared.fault.DeskKind.{DeskKind}
 use Rattle.license_desk.specs.declared.fault.DeskKind.TheVariants as desk
-use Rattle.player_cli.specs.declared.outcome.UsageKind.{UsageKind}
-use Rattle.player_cli.specs.declared.outcome.UsageKind.TheVariants.{MissingCommand, UnknownCommand, MissingWord, ExtraWord, BadNumber, BadKind, BadHex, EmptyName, NameClash}
-use Rattle.player_cli.specs.declared.outcome.UsageFault.{UsageFault}
+use Rattle.eme_edge.specs.declared.words.UsageKind.{UsageKind}
+use Rattle.eme_edge.specs.declared.words.UsageKind.TheVariants.{MissingCommand, UnknownCommand, MissingWord, ExtraWord, BadNumber, BadKind, BadHex, EmptyName, NameClash}
+use Rattle.eme_edge.specs.declared.words.UsageFault.{UsageFault}
 use Rattle.player_cli.specs.declared.outcome.Which.{Which}
 use Rattle.player_cli.specs.declared.outcome.Which.TheVariants.{Script, Media, Desk, Request}
 use Rattle.player_cli.specs.declared.outcome.Outcome.{Outcome}

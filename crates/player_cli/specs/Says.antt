@@ -12,7 +12,7 @@ use Rattle.player_cli.specs.declared.end.End.{End}
 use Rattle.player_cli.specs.declared.end.End.TheVariants.{Whole, Refused, Stopped}
 use Rattle.player_cli.specs.declared.outcome.Outcome.{Outcome}
 use Rattle.player_cli.specs.declared.outcome.Outcome.TheVariants.{Played, Done, Usage, OutOfMemory}
-use Rattle.player_cli.specs.declared.outcome.UsageFault.{UsageFault}
+use Rattle.eme_edge.specs.declared.words.UsageFault.{UsageFault}
 
 -- the answer of a command that has done all of it
 abbrev pub done_of : Asked → Outcome

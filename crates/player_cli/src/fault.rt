@@ -2,7 +2,8 @@
 ghost use Rattle.std.specs.Prelude.{◌≡◌, IfOk, string_bytes};
 ghost use Rattle.player_cli.specs.Faults.{status_of, text_of, usage_name, script_name, media_name, desk_name};
 
-use crate::outcome::{Outcome, UsageFault, UsageKind, Which};
+use crate::outcome::{Outcome, Which};
+use eme_edge::{UsageFault, UsageKind};
 use eme_types::Bytes;
 use license_desk::DeskKind;
 use script_lang::ScriptKind;

@@ -21,9 +21,10 @@ mod words;
 mod write;
 
 pub use decrypt_workers::{FreeGate, Gate, Spot};
+pub use eme_edge::{UsageFault, UsageKind};
 pub use fault::{fault_text, status};
 pub use license_desk::DeskKind;
-pub use outcome::{Outcome, UsageFault, UsageKind, Which};
+pub use outcome::{Outcome, Which};
 pub use script_lang::ScriptKind;
 pub use top::{run_player, run_quiet};
 pub use track_media::MediaKind;

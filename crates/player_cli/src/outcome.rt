@@ -1,4 +1,5 @@
 // What the top call answers.
+use eme_edge::UsageFault;
 use license_desk::DeskKind;
 use script_lang::ScriptKind;
 use track_media::MediaKind;
@@ -14,36 +15,6 @@ pub enum Which {
     Desk,
     /// The licence request that a desk answers.
     Request,
-}
-
-/// What is wrong with a word.
-#[derive(Clone, Copy, Debug, PartialEq, Eq)]
-pub enum UsageKind {
-    /// No word was given.
-    MissingCommand,
-    /// The first word is none of the commands.
-    UnknownCommand,
-    /// The words end too early; the place is the one behind the last word.
-    MissingWord,
-    /// A word stands where the form of its command allows none.
-    ExtraWord,
-    /// The word is no decimal number, or one above its limit.
-    BadNumber,
-    /// The word is no type of initialization data.
-    BadKind,
-    /// The word is not pairs of hexadecimal digits.
-    BadHex,
-    /// The name of a file or the prefix is empty.
-    EmptyName,
-    /// A file that the play reads has a name that it may write; the place is that of the prefix.
-    NameClash,
-}
-
-/// The first bad word, counted from 1.
-#[derive(Clone, Copy, Debug, PartialEq, Eq)]
-pub struct UsageFault {
-    pub place: u32,
-    pub kind: UsageKind,
 }
 
 /// What the top call answers.

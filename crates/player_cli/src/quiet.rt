@@ -2,8 +2,7 @@
 ghost use Rattle.std.specs.Prelude.{◌≡◌, map, string_bytes, MatchResult, Ok, Err};
 ghost use Rattle.player_cli.specs.Command.{quiet_command, inspect_words, request_words, demo_words, desk_words, desk_request, kind_of, Tell, Inspect, Demo, Desk, desk_names, IsRequested, IsQuiet};
 
-use crate::outcome::{UsageFault, UsageKind};
-use crate::words::{bad_word, next_word};
+use eme_edge::{UsageFault, UsageKind, bad_word, next_word};
 use eme_types::{InitKind, MAX_MOMENT};
 use text_words::{is_hex, number_up_to};
 

@@ -3,7 +3,7 @@ ghost use Rattle.std.specs.Prelude.{◌≡◌, ◌≤◌, [], ◌∷◌, map, st
 ghost use Rattle.eme_types.specs.declared.limits.TheConstants.{MAX_WORKERS};
 ghost use Rattle.player_cli.specs.Command.{command, quiet_command, play_words, media_words, prefix_words, play_end, is_ending, clashes, IsAsked};
 
-use crate::outcome::{UsageFault, UsageKind};
+use eme_edge::{UsageFault, UsageKind, bad_word, next_word};
 use eme_types::MAX_WORKERS;
 use text_words::{are_digits, behind, number_up_to};
 
@@ -17,19 +17,6 @@ pub struct PlayWords<'a> {
     pub media: &'a str,
     pub prefix: &'a str,
     pub workers: u8,
-}
-
-pub fn bad_word(place: u32, kind: UsageKind) -> UsageFault
-    ensures { result ≡ record { place = place; kind = kind } }
-{
-    UsageFault { place, kind }
-}
-
-pub fn next_word(words: &[String]) -> Option<(&str, &[String])>
-    ensures { MatchOption result (map string_bytes words.now ≡ []) (λ p. map string_bytes words.now ≡ p.0.now ∷ map string_bytes p.1.now) }
-{
-    let (word, rest) = words.split_first()?;
-    Some((word.as_str(), rest))
 }
 
 /// The words behind the command `play`, if that is the command.
