@@ -1,9 +1,10 @@
 //! The licence vault: `vault <file> create`, `vault <file> store <label> <licence file>`, `vault <file> load <label>`,
-//! `vault <file> release <label>` and `vault <file> ack <label>`. It ends with the status of the outcome and prints no text of a fault.
+//! `vault <file> release <label>` and `vault <file> ack <label>`. It ends with the status of the outcome, and prints no text of a fault.
 #![tactic(auto)]
 
 use eme_edge::HostShelf;
 use std::env::args;
+use std::fs::Files;
 use std::io;
 use std::io::ErrorKind;
 use std::process::ExitCode;
@@ -20,20 +21,26 @@ fn words<R: Env + AllocGlobal>(rt: &R) -> io::Result<Vec<String>> {
     Ok(words)
 }
 
+/// The first word names the file; the others say what to do with its vault.
+fn run<R: Files + Print + AllocGlobal>(rt: &R, words: &[String]) -> VaultOutcome {
+    let place = 1;
+    let Some((name, rest)) = words.split_first() else {
+        let kind = UsageKind::MissingWord;
+        return VaultOutcome::Usage(UsageFault { place, kind });
+    };
+    if name.is_empty() {
+        let kind = UsageKind::EmptyName;
+        return VaultOutcome::Usage(UsageFault { place, kind });
+    }
+    let mut shelf = HostShelf::new(rt);
+    let disk = HostDisk::new(rt, name.as_str());
+    let (_, outcome) = run_vault(rt.alloc(), rest, disk, &mut shelf);
+    outcome
+}
+
 fn main(rt: HostRuntime) -> ExitCode {
     let outcome = match words(&rt) {
-        Ok(words) => match words.split_first() {
-            Some((name, rest)) => {
-                let mut shelf = HostShelf::new(&rt);
-                let disk = HostDisk::new(&rt, name.as_str());
-                let (_, outcome) = run_vault(rt.alloc(), rest, disk, &mut shelf);
-                outcome
-            }
-            None => VaultOutcome::Usage(UsageFault {
-                place: 1,
-                kind: UsageKind::MissingWord,
-            }),
-        },
+        Ok(words) => run(&rt, words.as_slice()),
         Err(e) => {
             if e.kind() == ErrorKind::OutOfMemory {
                 VaultOutcome::OutOfMemory

@@ -1,3 +1,3 @@
+pub mod Fronts
 pub mod OneCall
-pub mod CallEnds
 pub mod AnswerDue
