@@ -13,6 +13,7 @@ of_the_first old first second new part =
 
 -- the first piece and a front of the second are one of both
 pub of_the_second : (old first second mid new : List ℕ) → mid ≡ old ++ first → SaidPart mid second new → SaidPart old (first ++ second) new
-of_the_second old first second mid new said part =
-    (length first + part.0,
-    part.1 ∙ ap (λ (l : List ℕ). l ++ take part.0 second) said ∙ append_assoc old first (take part.0 second) ∙ ap (λ (l : List ℕ). old ++ l) (sym (take-append-add first second part.0)))
+of_the_second old first second mid new said part = (
+  length first + part.0,
+  part.1 ∙ ap (λ (l : List ℕ). l ++ take part.0 second) said ∙ append_assoc old first (take part.0 second) ∙ ap (λ (l : List ℕ). old ++ l) (sym (take-append-add first second part.0)),
+)

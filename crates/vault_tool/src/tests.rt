@@ -12,7 +12,7 @@ const LICENCE: &str =
 const RELEASE: &str = "{\"kids\":[\"AAECAwQFBgcICQoLDA0ODw\"]}\n";
 
 // Runs the words of a line, which single blanks part; an empty line has no word.
-fn run_line<D: VaultDisk, S: Shelf>(
+fn run_line<D: VaultDisk + Drop, S: Shelf>(
     alloc: Global,
     line: &str,
     disk: D,
@@ -119,7 +119,10 @@ fn words_outside_their_grammar_touch_nothing(rt: HostRuntime) -> Result<(), Fail
         let mut shelf = shelf_with_files(alloc)?;
         let (disk, answer) = run_line(alloc, line, MemoryDisk::new(alloc), &mut shelf)?;
         assert!(rt; answer == usage(place, kind), "{line}");
-        assert!(rt; disk.image(None)?.is_empty() && shelf.said().is_empty(), "{line}");
+        assert!(rt;
+            disk.image(None)?.len() == 0 && shelf.said().is_empty(),
+            "{line}"
+        );
     }
     Ok(())
 }
@@ -154,7 +157,10 @@ fn each_failing_call_of_the_disk_is_a_disk_fault(rt: HostRuntime) -> Result<(), 
             let crashed = MemoryDisk::from_image(alloc, image.as_slice())?;
             let (_, again) = run_line(alloc, "load a", crashed, &mut shelf)?;
             let released = again == refused(VaultKind::NotHeld);
-            assert!(rt; released || (k < 8 && again == VaultOutcome::Done), "call {k}");
+            assert!(rt;
+                released || (k < 8 && again == VaultOutcome::Done),
+                "call {k}"
+            );
         }
     }
     Ok(())
