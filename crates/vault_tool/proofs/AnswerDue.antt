@@ -48,12 +48,12 @@ no_frame_here : (records : List VaultRecord) (place gate : ℕ) (c : Command) (x
 no_frame_here records place gate c xs x tail at (inl ended) ok is = absurd (omega (arith, ap length (sym ended ∙ is ∙ append_assoc (frame c) xs x)))
 no_frame_here records place gate c xs x tail at (inr none) ok is = none.2 c (xs ++ x) (subst (λ (n : ℕ). allowed c records n ≡ Ok tt) (sym at) ok) (is ∙ append_assoc (frame c) xs x)
 
-one_frame : (records : List VaultRecord) (gate : ℕ) (c d : Command) (xs ys x y : List ℕ) → allowed c records gate ≡ Ok tt → allowed d records gate ≡ Ok tt → (frame c ++ xs) ++ x ≡ (frame d ++ ys) ++ y → (c ≡ d) × (xs ++ x ≡ ys ++ y)
-one_frame records gate c d xs ys x y ok_c ok_d is =
+-- two accepted frames at one place are one
+first_frame : (records : List VaultRecord) (gate : ℕ) (c d : Command) (x y : List ℕ) → allowed c records gate ≡ Ok tt → allowed d records gate ≡ Ok tt → frame c ++ x ≡ frame d ++ y → (c ≡ d) × (x ≡ y)
+first_frame records gate c d x y ok_c ok_d is =
     let room_c = allowed_room c records gate ok_c in
     let room_d = allowed_room d records gate ok_d in
-    let grouped : frame c ++ (xs ++ x) ≡ frame d ++ (ys ++ y) = sym (append_assoc (frame c) xs x) ∙ is ∙ append_assoc (frame d) ys y in
-    one_command c d (xs ++ x) (ys ++ y) (omega arith) (omega arith) (ap (λ (l : List ℕ). drop 1 l) grouped)
+    one_command c d x y (omega arith) (omega arith) (ap (λ (l : List ℕ). drop 1 l) is)
 
 places : (records : List VaultRecord) (gate p q : ℕ) (cs ds : List Command) (x y : List ℕ) → AllAllowed records gate cs → AllAllowed records gate ds → NoFrame (replayed records cs) p x → NoFrame (replayed records ds) q y
     → p ≡ gate + length (file_of cs) → q ≡ gate + length (file_of ds) → file_of cs ++ x ≡ file_of ds ++ y → p ≡ q
@@ -61,7 +61,8 @@ places records gate p q [] [] x y all_c all_d none_x none_y at_p at_q is = omega
 places records gate p q [] (d ∷ ds) x y all_c all_d none_x none_y at_p at_q is = absurd (no_frame_here records p gate d (file_of ds) y x (omega (arith, at_p)) none_x all_d.0 is)
 places records gate p q (c ∷ cs) [] x y all_c all_d none_x none_y at_p at_q is = absurd (no_frame_here records q gate c (file_of cs) x y (omega (arith, at_q)) none_y all_c.0 (sym is))
 places records gate p q (c ∷ cs) (d ∷ ds) x y all_c all_d none_x none_y at_p at_q is =
-    let first = one_frame records gate c d (file_of cs) (file_of ds) x y all_c.0 all_d.0 is in
+    let grouped : frame c ++ (file_of cs ++ x) ≡ frame d ++ (file_of ds ++ y) = sym (append_assoc (frame c) (file_of cs) x) ∙ is ∙ append_assoc (frame d) (file_of ds) y in
+    let first = first_frame records gate c d (file_of cs ++ x) (file_of ds ++ y) all_c.0 all_d.0 grouped in
     let all_e = subst (λ (k : Command). AllAllowed (after k records) (gate + length (frame k)) ds) (sym first.0) all_d.1 in
     let none_e = subst (λ (k : Command). NoFrame (replayed (after k records) ds) q y) (sym first.0) none_y in
     let at_c : p ≡ gate + length (frame c) + length (file_of cs) = omega (arith, at_p, length-append (frame c) (file_of cs)) in

@@ -9,6 +9,10 @@ use std::test::Fail;
 const LICENCE: &str =
     "{\"keys\":[{\"kty\":\"oct\",\"kid\":\"AAECAwQFBgcICQoLDA0ODw\",\"k\":\"K34VFiiu0qar9xWICc9PPA\"}],\"type\":\"temporary\"}";
 
+// What a load of it says.
+const LOADED: &str =
+    "{\"keys\":[{\"kty\":\"oct\",\"kid\":\"AAECAwQFBgcICQoLDA0ODw\",\"k\":\"K34VFiiu0qar9xWICc9PPA\"}],\"type\":\"temporary\"}\n";
+
 const RELEASE: &str = "{\"kids\":[\"AAECAwQFBgcICQoLDA0ODw\"]}\n";
 
 // Runs the words of a line, which single blanks part; an empty line has no word.
@@ -39,9 +43,23 @@ fn shelf_with_files(alloc: Global) -> Result<MemoryShelf, AllocError> {
     Ok(shelf)
 }
 
-fn refused(kind: VaultKind) -> VaultOutcome {
-    VaultOutcome::Refused(kind)
-}
+const NOT_EMPTY: VaultOutcome = VaultOutcome::Refused(VaultKind::NotEmpty);
+
+const NO_LABEL: VaultOutcome = VaultOutcome::Refused(VaultKind::Label);
+
+const NO_LICENCE: VaultOutcome = VaultOutcome::Refused(VaultKind::Licence);
+
+const EXISTS: VaultOutcome = VaultOutcome::Refused(VaultKind::Exists);
+
+const UNKNOWN: VaultOutcome = VaultOutcome::Refused(VaultKind::Unknown);
+
+const NOT_HELD: VaultOutcome = VaultOutcome::Refused(VaultKind::NotHeld);
+
+const NOT_RELEASING: VaultOutcome = VaultOutcome::Refused(VaultKind::NotReleasing);
+
+const FULL: VaultOutcome = VaultOutcome::Refused(VaultKind::Full);
+
+const NO_VAULT: VaultOutcome = VaultOutcome::NotVault { place: 0 };
 
 fn usage(place: u32, kind: UsageKind) -> VaultOutcome {
     VaultOutcome::Usage(UsageFault { place, kind })
@@ -53,43 +71,39 @@ fn each_command_is_carried_out_or_refused(rt: HostRuntime) -> Result<(), Fail> {
     let mut shelf = shelf_with_files(alloc)?;
     let mut disk = MemoryDisk::new(alloc);
     let mut said = Bytes::new(alloc);
-    let no_vault = VaultOutcome::NotVault { place: 0 };
     for (line, outcome, text) in [
-        ("load a", no_vault, ""),
-        ("release a", no_vault, ""),
-        ("ack a", no_vault, ""),
-        ("store a l", no_vault, ""),
+        ("load a", NO_VAULT, ""),
+        ("release a", NO_VAULT, ""),
+        ("ack a", NO_VAULT, ""),
+        ("store a l", NO_VAULT, ""),
         // the licence is read before the vault is opened
         ("store a no", VaultOutcome::ReadFault, ""),
         ("store a more", VaultOutcome::TooLarge, ""),
         ("create", VaultOutcome::Done, ""),
-        ("create", refused(VaultKind::NotEmpty), ""),
-        ("store A n", refused(VaultKind::Label), ""),
-        ("store a most", refused(VaultKind::Licence), ""),
+        ("create", NOT_EMPTY, ""),
+        ("store A n", NO_LABEL, ""),
+        ("store a most", NO_LICENCE, ""),
         ("store a l", VaultOutcome::Done, ""),
-        ("store a n", refused(VaultKind::Licence), ""),
-        ("store a l", refused(VaultKind::Exists), ""),
-        ("load a", VaultOutcome::Done, LICENCE),
-        ("load -", refused(VaultKind::Label), ""),
-        ("load b", refused(VaultKind::Unknown), ""),
-        ("ack -", refused(VaultKind::Label), ""),
-        ("ack b", refused(VaultKind::Unknown), ""),
-        ("ack a", refused(VaultKind::NotReleasing), ""),
-        ("release -", refused(VaultKind::Label), ""),
-        ("release b", refused(VaultKind::Unknown), ""),
+        ("store a n", NO_LICENCE, ""),
+        ("store a l", EXISTS, ""),
+        ("load a", VaultOutcome::Done, LOADED),
+        ("load -", NO_LABEL, ""),
+        ("load b", UNKNOWN, ""),
+        ("ack -", NO_LABEL, ""),
+        ("ack b", UNKNOWN, ""),
+        ("ack a", NOT_RELEASING, ""),
+        ("release -", NO_LABEL, ""),
+        ("release b", UNKNOWN, ""),
         ("release a", VaultOutcome::Done, RELEASE),
-        ("load a", refused(VaultKind::NotHeld), ""),
-        ("release a", refused(VaultKind::NotHeld), ""),
-        ("store a l", refused(VaultKind::Exists), ""),
+        ("load a", NOT_HELD, ""),
+        ("release a", NOT_HELD, ""),
+        ("store a l", EXISTS, ""),
         ("ack a", VaultOutcome::Done, ""),
-        ("load a", refused(VaultKind::Unknown), ""),
+        ("load a", UNKNOWN, ""),
     ] {
         let (left, answer) = run_line(alloc, line, disk, &mut shelf)?;
         disk = left;
         said.extend_from_slice(text.as_bytes())?;
-        if line == "load a" && answer == VaultOutcome::Done {
-            said.push(b'\n')?;
-        }
         assert!(rt; answer == outcome, "{line}");
         assert!(rt; shelf.said() == said.as_slice(), "{line}");
     }
@@ -156,7 +170,7 @@ fn each_failing_call_of_the_disk_is_a_disk_fault(rt: HostRuntime) -> Result<(), 
             let image = disk.image(fill)?;
             let crashed = MemoryDisk::from_image(alloc, image.as_slice())?;
             let (_, again) = run_line(alloc, "load a", crashed, &mut shelf)?;
-            let released = again == refused(VaultKind::NotHeld);
+            let released = again == NOT_HELD;
             assert!(rt;
                 released || (k < 8 && again == VaultOutcome::Done),
                 "call {k}"
@@ -182,7 +196,7 @@ fn a_failing_shelf_leaves_what_it_must(rt: HostRuntime) -> Result<(), Fail> {
     assert_eq!(rt; answer, VaultOutcome::WriteFault);
     assert_eq!(rt; shelf.said(), &RELEASE.as_bytes()[..17]);
     let (_, answer) = run_line(alloc, "load a", disk, &mut shelf)?;
-    assert_eq!(rt; answer, refused(VaultKind::NotHeld));
+    assert_eq!(rt; answer, NOT_HELD);
     Ok(())
 }
 
@@ -191,7 +205,7 @@ fn each_outcome_has_its_status(rt: HostRuntime) {
     for (outcome, number) in [
         (VaultOutcome::Done, 0),
         (usage(1, UsageKind::MissingCommand), 2),
-        (refused(VaultKind::Full), 3),
+        (FULL, 3),
         (VaultOutcome::NotVault { place: 7 }, 4),
         (VaultOutcome::DiskFault, 5),
         (VaultOutcome::TooLarge, 6),
