@@ -67,4 +67,5 @@ def is_paced(lines):
 def with_settles(script):
     """The script with a settle behind each line that is none."""
     head, *lines = script.decode().splitlines()
-    return "".join(f"{it}\n" for it in (head, *(it for line in lines if not line.endswith(" settle") for it in (line, "0 settle")))).encode()
+    paced = [it for line in lines if not line.endswith(" settle") for it in (line, "0 settle")]
+    return "".join(f"{it}\n" for it in (head, *paced)).encode()
