@@ -6,8 +6,8 @@ ghost use Rattle.cdm_state.specs.History.{MayFeedNext};
 ghost use Rattle.cdm_state.specs.Moment.{tick_to, last_moment};
 ghost use Rattle.key_claims.specs.declared.claim.Claim.{Claim as Held};
 
-use cdm_state::{Cdm, Claim, Delivered, moment_is_of_the_last_tick};
-use eme_types::{Copies, Entry, Fragment, Media};
+use cdm_state::{Cdm, Claim, ClaimFault, Delivered, moment_is_of_the_last_tick};
+use eme_types::{AppCall, Bytes, Copies, Entry, Fragment, Media};
 use sample_crypt::open_sample;
 use script_lang::{Action, Line};
 use std::alloc::{AllocError, Global};
@@ -35,14 +35,68 @@ fn first_fragment(cdm: &Cdm, media: &Media) -> Result<Option<Fragment>, AllocErr
     }
 }
 
-fn feed(cdm: &mut Cdm, line: u32, media: &Media) -> Result<bool, AllocError>
-    requires fed { IsFed media.now }
-    requires tracks { cdm.old.tracks ≡ media.now.tracks }
+fn feed(cdm: &mut Cdm, line: u32, given: Option<Fragment>) -> bool
+    requires { MayFeedNext cdm.old.tracks cdm.old.history given }
     ensures tracks { cdm.new.tracks ≡ cdm.old.tracks }
     ensures open_ { (c : Held) → IsOpen cdm.old c → IsOpen cdm.new c }
 {
-    let given = first_fragment(cdm, media)?;
-    Ok(cdm.feed(line, given).is_ok())
+    cdm.feed(line, given).is_ok()
+}
+
+fn ask(cdm: &mut Cdm, lane: u8, line: u32, call: AppCall) -> bool
+    ensures tracks { cdm.new.tracks ≡ cdm.old.tracks }
+    ensures open_ { (c : Held) → IsOpen cdm.old c → IsOpen cdm.new c }
+{
+    cdm.call(lane, line, call).is_ok()
+}
+
+fn evict(cdm: &mut Cdm, line: u32, label: Bytes) -> bool
+    ensures tracks { cdm.new.tracks ≡ cdm.old.tracks }
+    ensures open_ { (c : Held) → IsOpen cdm.old c → IsOpen cdm.new c }
+{
+    cdm.evict(line, label).is_ok()
+}
+
+fn settle(cdm: &mut Cdm, line: u32) -> bool
+    ensures tracks { cdm.new.tracks ≡ cdm.old.tracks }
+    ensures open_ { (c : Held) → IsOpen cdm.old c → IsOpen cdm.new c }
+{
+    cdm.settle(line).is_ok()
+}
+
+fn job(cdm: &mut Cdm) -> bool
+    ensures tracks { cdm.new.tracks ≡ cdm.old.tracks }
+    ensures open_ { (c : Held) → IsOpen cdm.old c → IsOpen cdm.new c }
+{
+    cdm.job().is_ok()
+}
+
+fn task(cdm: &mut Cdm) -> bool
+    ensures tracks { cdm.new.tracks ≡ cdm.old.tracks }
+    ensures open_ { (c : Held) → IsOpen cdm.old c → IsOpen cdm.new c }
+{
+    cdm.task().is_ok()
+}
+
+fn publish(cdm: &mut Cdm) -> bool
+    ensures tracks { cdm.new.tracks ≡ cdm.old.tracks }
+    ensures open_ { (c : Held) → IsOpen cdm.old c → IsOpen cdm.new c }
+{
+    cdm.publish().is_ok()
+}
+
+fn pass(cdm: &mut Cdm) -> bool
+    ensures tracks { cdm.new.tracks ≡ cdm.old.tracks }
+    ensures open_ { (c : Held) → IsOpen cdm.old c → IsOpen cdm.new c }
+{
+    cdm.pass_clear().is_ok()
+}
+
+fn wait(cdm: &mut Cdm) -> bool
+    ensures tracks { cdm.new.tracks ≡ cdm.old.tracks }
+    ensures open_ { (c : Held) → IsOpen cdm.old c → IsOpen cdm.new c }
+{
+    cdm.wait_for_key().is_ok()
 }
 
 fn after(moment: u64, entry: &Entry) -> u64
@@ -86,15 +140,18 @@ fn do_line(cdm: &mut Cdm, line: &Line, media: &Media) -> Result<bool, AllocError
     match &line.action {
         Action::Ask(call) => {
             let call = call.copy()?;
-            Ok(cdm.call(line.lane, line.number, call).is_ok())
+            Ok(ask(cdm, line.lane, line.number, call))
         }
-        Action::Feed => feed(cdm, line.number, media),
+        Action::Feed => {
+            let given = first_fragment(cdm, media)?;
+            Ok(feed(cdm, line.number, given))
+        }
         Action::Clock(moment) => Ok(clock(cdm, line.number, *moment)),
         Action::Evict(label) => {
             let label = label.copy()?;
-            Ok(cdm.evict(line.number, label).is_ok())
+            Ok(evict(cdm, line.number, label))
         }
-        Action::Settle => Ok(cdm.settle(line.number).is_ok()),
+        Action::Settle => Ok(settle(cdm, line.number)),
     }
 }
 
@@ -106,27 +163,27 @@ fn step(cdm: &mut Cdm, media: &Media, word: &str) -> Result<bool, AllocError>
     ensures open_ { (c : Held) → IsOpen cdm.old c → IsOpen cdm.new c }
 {
     match word {
-        "job" => Ok(cdm.job().is_ok()),
-        "task" => Ok(cdm.task().is_ok()),
-        "publish" => Ok(cdm.publish().is_ok()),
-        "pass" => Ok(cdm.pass_clear().is_ok()),
-        "wait" => Ok(cdm.wait_for_key().is_ok()),
-        "rest" => Ok(cdm.settle(0).is_ok()),
-        "feed" => feed(cdm, 0, media),
+        "job" => Ok(job(cdm)),
+        "task" => Ok(task(cdm)),
+        "publish" => Ok(publish(cdm)),
+        "pass" => Ok(pass(cdm)),
+        "wait" => Ok(wait(cdm)),
+        "rest" => Ok(settle(cdm, 0)),
+        "feed" => {
+            let given = first_fragment(cdm, media)?;
+            Ok(feed(cdm, 0, given))
+        }
         _ => Ok(false),
     }
 }
 
-/// A claim of a worker, if one is given.
-fn claim(cdm: &mut Cdm) -> Option<Claim>
+/// A claim of a worker.
+fn claim(cdm: &mut Cdm) -> Result<Claim, ClaimFault>
     ensures tracks { cdm.new.tracks ≡ cdm.old.tracks }
-    ensures given { MatchOption result (Unit {0}) (λ c. IsOpen cdm.new c) }
+    ensures given { IfOk result (λ c. IsOpen cdm.new c) }
     ensures open_ { (c : Held) → IsOpen cdm.old c → IsOpen cdm.new c }
 {
-    match cdm.claim(1) {
-        Ok(claim) => Some(claim),
-        Err(_) => None,
-    }
+    cdm.claim(1)
 }
 
 /// Whether no other claim stands at the place.
@@ -139,7 +196,28 @@ fn is_alone(place: u64, other: &Option<Claim>) -> bool
     }
 }
 
-/// Delivers the claim with its sample opened under its key, or gives it up: whether it was taken, or came too late, as the word says.
+fn give_up(cdm: &mut Cdm, claim: Claim)
+    requires { IsOpen cdm.old claim }
+    ensures tracks { cdm.new.tracks ≡ cdm.old.tracks }
+    ensures open_ { (c : Held) → c.place ≢ claim.place → IsOpen cdm.old c → IsOpen cdm.new c }
+{
+    cdm.give_up(claim);
+}
+
+/// Whether the claim is taken, with its sample opened under its key.
+fn is_taken(alloc: Global, cdm: &mut Cdm, claim: Claim) -> Result<bool, Fail>
+    requires { IsOpen cdm.old claim }
+    ensures tracks { cdm.new.tracks ≡ cdm.old.tracks }
+    ensures open_ { (c : Held) → c.place ≢ claim.place → IsOpen cdm.old c → IsOpen cdm.new c }
+{
+    let clear = open_sample(alloc, &claim.sample, &claim.key)?;
+    match cdm.deliver(claim, clear) {
+        Delivered::Taken => Ok(true),
+        Delivered::Stale(_) => Ok(false),
+    }
+}
+
+/// Delivers the claim or gives it up: whether it was taken, or came too late, as the word says.
 fn spend(
     alloc: Global,
     cdm: &mut Cdm,
@@ -156,14 +234,11 @@ fn spend(
         return Ok(false);
     }
     if word == "drop" {
-        cdm.give_up(claim);
+        give_up(cdm, claim);
         return Ok(true);
     }
-    let clear = open_sample(alloc, &claim.sample, &claim.key)?;
-    match cdm.deliver(claim, clear) {
-        Delivered::Taken => Ok(word == "deliver"),
-        Delivered::Stale(_) => Ok(word == "late"),
-    }
+    let taken = is_taken(alloc, cdm, claim)?;
+    Ok(taken == (word == "deliver"))
 }
 
 /// The claims after a word that gives or takes one, or goes over to the other; none where it was not allowed.
@@ -185,8 +260,11 @@ fn act(
     let Hands { one, other } = hands;
     match (word, one) {
         ("claim", None) => match claim(cdm) {
-            None => Ok(None),
-            one => Ok(Some(Hands { one, other })),
+            Err(_) => Ok(None),
+            Ok(claim) => Ok(Some(Hands {
+                one: Some(claim),
+                other,
+            })),
         },
         ("turn", one) => Ok(Some(Hands {
             one: other,
