@@ -20,3 +20,4 @@ pub mod Playing
 pub mod Feds
 pub mod Ending
 pub mod Moving
+mod FirstFed
