@@ -21,8 +21,9 @@ use iso_boxes::{put_bytes, put_u16, put_u32};
 use std::alloc::{AllocError, Global};
 
 /// The IV of a sample in `cenc`.
+#[tactic(auto, unfolding(crate::specs::Sealed::iv_of))]
 pub(crate) fn counted_iv(iv: [u8; 16], number: u64) -> [u8; 8]
-    ensures { Eight result ≡ iv_of Scheme.Cenc iv number }
+    ensures { iv_of Scheme.Cenc iv number ≡ Eight result }
 {
     let first = u64::from_be_bytes([iv[0], iv[1], iv[2], iv[3], iv[4], iv[5], iv[6], iv[7]]);
     first.wrapping_add(number).to_be_bytes()
@@ -38,6 +39,7 @@ fn put_own_iv(body: &mut Bytes, plan: &SealPlan, number: u64) -> Result<(), Allo
 }
 
 // The IV of a sample, and its one pair.
+#[tactic(auto, unfolding(prot_boxes::specs::Senc::subs_body))]
 fn put_item(
     body: &mut Bytes,
     plan: &SealPlan,
@@ -72,7 +74,7 @@ fn put_items(
     Ok(())
 }
 
-#[tactic(auto, unfolding(prot_boxes::specs::Senc::senc_body))]
+#[tactic(auto, using(crate::proofs::LengthLemmas::items_count), unfolding(prot_boxes::specs::Senc::senc_body))]
 fn senc_body(
     alloc: Global,
     plan: &SealPlan,
