@@ -1,2 +1,4 @@
 pub mod LengthLemmas
 pub mod TenthLemmas
+pub mod OpeningLemmas
+pub mod SealedLemmas
