@@ -1,6 +1,11 @@
 -- Sealed samples beside the clear ones.
-use Rattle.std.proofs.Common.{◌≡◌, ℕ, suc, ◌+◌, ◌*◌, List, [], ◌∷◌, ◌++◌, length, map, flat_map, refl, sym, ap, ◌∙◌, arith, append_assoc, append-nil}
+use Rattle.std.proofs.Common.{◌≡◌, ℕ, suc, ◌+◌, ◌-◌, ◌*◌, List, [], ◌∷◌, ◌++◌, length, map, flat_map, refl, sym, ap, ◌∙◌, arith, append_assoc, append-nil, take, drop, length-append}
+use Rattle.std.proofs.lemmas.List.{take_at, drop_at, drop_all, take_all}
+use borrow.Rule.Slice.PartMut.{put_mid}
+use Rattle.std.specs.Prelude.{Result, Ok, Err, OnOk, codes}
+use Rattle.std.specs.Int.{w32, to_be_bytes}
 use Rattle.std.specs.List.{sum_by}
+use Rattle.iso_boxes.specs.Writing.{boxed}
 use Rattle.std.proofs.lemmas.List.Sums.{sum_by-cons}
 use Rattle.std.proofs.lemmas.List.Concat.{length-flat_map}
 use Rattle.eme_types.specs.declared.sample.EncSample.{EncSample}
@@ -11,8 +16,8 @@ use Rattle.eme_types.specs.Fed.{sample_bytes, part_samples, part_bytes, fragment
 use Rattle.seal_media.specs.declared.plan.SealPlan.{SealPlan}
 use Rattle.seal_media.specs.Sealed.{IsSealed, AreSealed, IsSealedPart, AreSealedParts, IsSealedFragment, AreSealedFragments}
 use Rattle.seal_media.specs.Lengths.{entry_length, traf_length, moof_length, fragment_length}
-use Rattle.seal_media.specs.Layout.{item_of, traf_box, traf_boxes, part_data, mdat_body}
-use Rattle.seal_media.specs.Views.{items_from, traf_at, trafs_at}
+use Rattle.seal_media.specs.Layout.{item_of, traf_box, traf_boxes, moof_body, part_data, mdat_body, part_boxes}
+use Rattle.seal_media.specs.Views.{items_from, traf_at, trafs_at, HasParts, HasFragment}
 
 -- ---- one more
 
@@ -93,4 +98,56 @@ pub data_size : (plan : SealPlan) (n : ℕ) (ps qs : List TrackPart) → AreSeal
 data_size plan n [] [] are = refl
 data_size plan n [] (q ∷ qs) are = absurd are
 data_size plan n (p ∷ ps) [] are = absurd are
-data_size plan n (p ∷ ps) (q ∷ qs) are = ?
+data_size plan n (p ∷ ps) (q ∷ qs) are =
+    let one : length (part_data q) ≡ sum_by sample_bytes q.samples = length-flat_map (λ (s : EncSample). s.bytes) q.samples in
+    let whole : length (mdat_body (q ∷ qs)) ≡ length (part_data q) + length (mdat_body qs) = length-append (part_data q) (mdat_body qs) in
+    omega (arith, one, whole, same_bytes plan n p.samples q.samples are.0.samples, data_size plan (n + part_samples p) ps qs are.1, sum_by-cons part_bytes p ps)
+
+-- bytes behind which a piece is overwritten
+pub overwritten : (n : ℕ) (old was ys : List ℕ) → n ≡ length was → put_mid (length old) n (old ++ was) ys ≡ old ++ ys
+overwritten n old was ys e =
+    let behind : drop (length old) (old ++ was) ≡ was = drop_at old was (length old) refl in
+    let before : take (length old) (old ++ was) ≡ old = take_at old was (length old) refl in
+    rw (before, behind, drop_all n was (omega (arith, e)), append-nil) refl
+
+-- the same in a list whose items are given back
+pub written : (len start : ℕ) (items xs old was ys : List ℕ) → xs ≡ items → items ≡ old ++ was → start ≡ length old → len ≡ length items → length ys ≡ length was
+    → take len (put_mid start (length xs - start) xs ys ++ drop (length (put_mid start (length xs - start) xs ys)) items) ≡ old ++ ys
+written len start items xs old was ys same filled at all ys_len =
+    let whole = ap length filled ∙ length-append old was in
+    let piece : length (old ++ was) - length old ≡ length was = omega (arith, length-append old was) in
+    let over : put_mid start (length xs - start) xs ys ≡ old ++ ys = rw (same, filled, at) (overwritten (length (old ++ was) - length old) old was ys piece) in
+    let long : length (old ++ ys) ≡ len = omega (arith, length-append old ys, whole, all, ys_len) in
+    rw over (take_at (old ++ ys) (drop (length (old ++ ys)) items) len long)
+
+-- what was there before
+pub was_there : (start : ℕ) (items xs old was : List ℕ) → xs ≡ items → items ≡ old ++ was → start ≡ length old → take (length xs - start) (drop start xs) ≡ was
+was_there start items xs old was same filled at =
+    let piece : length (old ++ was) - length old ≡ length was = omega (arith, length-append old was) in
+    let behind : drop (length old) (old ++ was) ≡ was = drop_at old was (length old) refl in
+    rw (same, filled, at, piece, behind) (take_all (length was) was (omega arith))
+
+-- ---- the boxes of a fragment
+
+in_a_row : (a b c d e : List ℕ) → (((a ++ b) ++ c) ++ d) ++ e ≡ a ++ (b ++ (c ++ (d ++ e)))
+in_a_row a b c d e = simp append_assoc
+
+pub whole_fragment : (plan : SealPlan) (n : ℕ) (f : Fragment) (old moof size mid new : List ℕ)
+    → moof ≡ boxed (codes "moof") (trafs_at plan n (moof_length plan.scheme f.parts + 8) f.parts) → size ≡ to_be_bytes w32 (8 + sum_by part_bytes f.parts)
+    → mid ≡ ((old ++ moof) ++ size) ++ codes "mdat" → HasParts plan n f.parts mid new → HasFragment plan n f old new
+unfolding boxed
+whole_fragment plan n f old moof size mid new moof_is size_is mid_is has =
+    let qs = has.sealed in
+    let longs : moof_length plan.scheme qs ≡ moof_length plan.scheme f.parts = ap (λ (k : ℕ). 8 + k) (same_lengths plan n f.parts qs has.are) in
+    let trafs : trafs_at plan n (moof_length plan.scheme f.parts + 8) f.parts ≡ moof_body plan.scheme qs = rw longs (same_trafs plan n (moof_length plan.scheme f.parts + 8) f.parts qs has.are) in
+    let moofs : moof ≡ boxed (codes "moof") (moof_body plan.scheme qs) = moof_is ∙ ap (boxed (codes "moof")) trafs in
+    let sizes : size ≡ to_be_bytes w32 (8 + length (mdat_body qs)) = rw (data_size plan n f.parts qs has.are) size_is in
+    record {
+      sealed = qs;
+      are = has.are;
+      behind = has.behind ∙ ap (λ (xs : List ℕ). xs ++ mdat_body qs) mid_is ∙ in_a_row old moof size (codes "mdat") (mdat_body qs) ∙ rw (moofs, sizes) refl;
+    }
+
+pub on_ok : {A E P Q : Type 0} (r : Result A E) → (P → Q) → OnOk r P → OnOk r Q
+on_ok (Ok x) f p = f p
+on_ok (Err e) f p = tt

@@ -5,7 +5,7 @@ ghost use Rattle.eme_types.specs.Fed.{part_samples, fragment_samples, IsFed};
 ghost use Rattle.seal_media.specs.Sealed.{init_of};
 ghost use Rattle.seal_media.specs.Lengths.{fragment_length, sealed_length};
 ghost use Rattle.seal_media.specs.Views.{HasSample, HasSamples, HasParts, HasFragment, HasFragments};
-ghost use Rattle.seal_media.specs.Answers.{IsFileOf, IsReadAs, IsRefused};
+ghost use Rattle.seal_media.specs.Answers.{IsFileOf, IsRefused};
 ghost use Rattle.seal_media.specs.Refusals.{refusal};
 
 use crate::cipher::seal_bytes;
@@ -136,7 +136,6 @@ fn file_of(alloc: Global, media: &Media, plan: &SealPlan, length: u64) -> Result
 pub fn seal(alloc: Global, media: &Media, plan: &SealPlan) -> Result<Bytes, SealFault>
     requires { IsFed media.now }
     ensures file { IfOk result (λ bytes. IsFileOf plan.now media.now bytes) }
-    ensures read { IfOk result (λ bytes. IsReadAs plan.now media.now bytes) }
     ensures allowed { IfOk result (λ _. refusal plan.now media.now ≡ None) }
     ensures fault { IfErr result (λ fault. IsRefused plan.now media.now fault) }
 {
