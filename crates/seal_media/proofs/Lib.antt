@@ -3,3 +3,4 @@ pub mod TenthLemmas
 pub mod OpeningLemmas
 pub mod SealedLemmas
 pub mod RefusalLemmas
+pub mod WholeLength

@@ -136,6 +136,7 @@ fn file_of(alloc: Global, media: &Media, plan: &SealPlan, length: u64) -> Result
 pub fn seal(alloc: Global, media: &Media, plan: &SealPlan) -> Result<Bytes, SealFault>
     requires { IsFed media.now }
     ensures file { IfOk result (λ bytes. IsFileOf plan.now media.now bytes) }
+    ensures length { IfOk result (λ bytes. length bytes ≡ sealed_length plan.now.scheme media.now) }
     ensures allowed { IfOk result (λ _. refusal plan.now media.now ≡ None) }
     ensures fault { IfErr result (λ fault. IsRefused plan.now media.now fault) }
 {

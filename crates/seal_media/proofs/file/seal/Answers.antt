@@ -1,4 +1,6 @@
-use Rattle.std.proofs.Common.{◌≡◌, sym, ◌∙◌, inr}
+use Rattle.std.proofs.Common.{◌≡◌, length, ap, sym, ◌∙◌, inr, rules}
+use Rattle.seal_media.proofs.LengthLemmas.{HasSixteen}
+use Rattle.seal_media.proofs.WholeLength.{file_size}
 use Rattle.seal_media.proofs.RefusalLemmas.{by_fragment, by_length, by_none}
 use Rattle.seal_media.proofs.file.seal.Goals as goal
 
@@ -12,3 +14,9 @@ returns-in_default-length_of-clause-fault c =
 pub returns-clause-allowed : goal.returns-clause-allowed
 returns-clause-allowed c =
     by_none c.args.plan.now c.args.media.now (sym (rw c.as_slice.ensures at c.fragments_refusal.ensures) ∙ c.in_default.is) (sym c.in-Some-length_of.ensures.none)
+
+pub returns-clause-length : goal.returns-clause-length
+returns-clause-length c =
+    let has : HasSixteen c.args.plan.now = record { kid = search rules; iv = search rules } in
+    let is = c.in_ok-file_of.ensures in
+    ap length is.file ∙ file_size c.args.plan.now c.args.media.now is.sealed has is.media
