@@ -1,0 +1,3 @@
+pub mod BackStands
+pub mod BackWalk
+pub mod BackFields
