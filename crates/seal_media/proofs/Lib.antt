@@ -1,3 +1,4 @@
 pub mod BackStands
 pub mod BackWalk
 pub mod BackFields
+pub mod BackTable
