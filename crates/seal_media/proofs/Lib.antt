@@ -2,3 +2,5 @@ pub mod BackStands
 pub mod BackWalk
 pub mod BackFields
 pub mod BackTable
+pub mod BackMovie
+pub mod BackProtection
