@@ -1,12 +1,13 @@
 -- The protection in a movie that was written passes, and each track is known with it.
-use Rattle.std.proofs.Common.{◌≡◌, ◌⊎◌, inl, inr, ℕ, ◌+◌, ◌^◌, ◌<◌, ◌≤◌, Bool, true, false, List, [], ◌∷◌, ◌++◌, length, map, codes, Option, Some, None, Result, Ok, Err, refl, sym, ap, subst, ◌∙◌, arith, append_assoc}
+use Rattle.std.proofs.Common.{◌≡◌, ◌⊎◌, inl, inr, ℕ, ◌+◌, ◌^◌, ◌<◌, ◌≤◌, Bool, true, false, List, [], ◌∷◌, ◌++◌, length, map, codes, Option, Some, None, Result, Ok, Err, refl, sym, ap, subst, ◌∙◌, ◌-◌, arith, append_assoc, append-nil, length-append}
 use Rattle.std.specs.Prelude.{◌==◌, ◌||◌, ◌&&◌, IfSome, is_some}
 use Rattle.std.specs.List.{All, flat_map, list_any}
 use Rattle.std.proofs.lemmas.Bool.{eqb-true}
 use Rattle.std.proofs.lemmas.Bool.Decides.{eqb_tells}
 use Rattle.eme_types.specs.declared.sample.Scheme.{Scheme}
 use Rattle.eme_types.specs.declared.sample.Scheme.TheVariants.{Cenc, Cbcs}
-use Rattle.eme_types.specs.Fed.{is_among}
+use Rattle.std.specs.Int.{w32, to_be_bytes}
+use Rattle.eme_types.specs.Fed.{is_among, are_distinct}
 use Rattle.iso_boxes.specs.Walk.{inside}
 use Rattle.iso_boxes.specs.Writing.{boxed}
 use Rattle.prot_boxes.proofs.Again.{box_of}
@@ -24,16 +25,20 @@ use Rattle.frag_boxes.specs.Moov.{with_trex, trex_of}
 use Rattle.frag_boxes.specs.Tracks.{track_id, track_ids}
 use Rattle.sample_aux.specs.declared.protection.TrackProtection.{TrackProtection}
 use Rattle.sample_aux.specs.InOrder.{each_passes}
-use Rattle.sample_aux.specs.Spans.{first_given, box_at}
+use Rattle.sample_aux.specs.Inits.{inits_of}
+use Rattle.sample_aux.specs.Spans.{first_given, box_bytes}
+use Rattle.track_media.specs.declared.top.KnownMovie.{KnownMovie}
+use Rattle.track_media.specs.Mp4.{movie_at}
+use Rattle.init_data.specs.Pssh.{pssh_body, pssh_box}
 use Rattle.sample_aux.specs.Checked.{known_sinf, entry_protection, groups_in, track_passes, movie_passes, track_protection, movie_protection}
 use Rattle.sample_aux.specs.Resolve.{track_with}
 use Rattle.seal_media.specs.declared.plan.SealPlan.{SealPlan}
-use Rattle.seal_media.specs.Sealed.{crypt_of, skip_of}
-use Rattle.seal_media.specs.Layout.{tenc_version, own_iv_size, constant_iv, tenc_of, sinf_of, tkhd_body, encv_body, stsd_body, stsz_body, stbl_body, mdia_body, trak_body, trak_box, moov_body}
+use Rattle.seal_media.specs.Sealed.{crypt_of, skip_of, pssh_of, init_of}
+use Rattle.seal_media.specs.Layout.{tenc_version, own_iv_size, constant_iv, tenc_of, sinf_of, tkhd_body, encv_body, stsd_body, stsz_body, stbl_body, mdia_body, trak_body, trak_box, trex_body, trex_box, moov_body}
 use Rattle.seal_media.proofs.BackStands.{Stands, stands_left, stands_right, stands_body, stands_next, stands_fits}
 use Rattle.seal_media.proofs.BackFields.{trex_read}
 use Rattle.seal_media.proofs.BackTable.{entry_read, sinf_stands, encv_stands, track_read}
-use Rattle.seal_media.proofs.BackMovie.{trexes_from, tracks_from, mvex_place, movie_read}
+use Rattle.seal_media.proofs.BackMovie.{trexes_from, tracks_from, behind_tracks, mvex_place, pssh_place, movie_read, moov_again}
 
 -- ---- the sinf says what it can say
 
@@ -127,7 +132,7 @@ trex_known place id [] e = absurd cc
 trex_known place id (one ∷ ids) e = elim (eqb_tells one id) [
   | inl h ↦ (place, rw h.0 refl)
   | inr h ↦
-      let more = trex_known (place + (8 + length (Rattle.seal_media.specs.Layout.trex_body one))) id ids (rw h.0 at e) in
+      let more = trex_known (place + (8 + length (trex_body one))) id ids (rw h.0 at e) in
       (more.0, rw h.0 more.1)
 ]
 
@@ -151,5 +156,56 @@ movie_protects : (plan : SealPlan) (file : List ℕ) (place : ℕ) (ids : List �
     × ((movie_protection file (movie_read plan place ids)).tracks ≡ all_of plan (trexes_from (mvex_place plan place ids + 8) ids) ids)
 unfolding movie_passes moov_body
 movie_protects plan file place ids small k i s =
-    let after = ? in
-    ?
+    let body = stands_body file place (codes "moov") (flat_map (trak_box plan) ids ++ (boxed (codes "mvex") (flat_map trex_box ids) ++ pssh_box (pssh_of plan))) refl s in
+    tracks_protect plan file (place + 8) ids (boxed (codes "mvex") (flat_map trex_box ids) ++ pssh_box (pssh_of plan)) (trexes_from (mvex_place plan place ids + 8) ids) small k i body
+
+-- what is kept of the movie whose moov has this place
+abbrev pub kept_movie : SealPlan → List ℕ → ℕ → List ℕ → KnownMovie
+kept_movie plan file place ids = record { movie = movie_read plan place ids; protection = movie_protection file (movie_read plan place ids) }
+
+-- a movie is read, its protection passes, and both are kept
+pub movie_again : (plan : SealPlan) (file : List ℕ) (place : ℕ) (ids : List ℕ) → length file < 2 ^ 32 → length plan.kid ≡ 16 → length plan.iv ≡ 16 → All (λ id. id < 2 ^ 32) ids → are_distinct ids ≡ true → length ids ≤ 8
+    → Stands file place (boxed (codes "moov") (moov_body plan ids)) → movie_at file (box_of (codes "moov") (moov_body plan ids) place) ≡ Ok (kept_movie plan file place ids)
+unfolding movie_at
+movie_again plan file place ids small k i fits distinct few s =
+    rw (moov_again plan file place ids small fits distinct few s, (movie_protects plan file place ids small k i s).0) refl
+
+-- a track of the movie is known
+pub track_is_known : (plan : SealPlan) (file : List ℕ) (place : ℕ) (ids : List ℕ) (id : ℕ) → length file < 2 ^ 32 → length plan.kid ≡ 16 → length plan.iv ≡ 16 → Stands file place (boxed (codes "moov") (moov_body plan ids))
+    → is_among ids id ≡ true → (q : ℕ) × (track_with id (movie_protection file (movie_read plan place ids)).tracks ≡ Some (known_read plan q id))
+track_is_known plan file place ids id small k i s e =
+    let all = (movie_protects plan file place ids small k i s).1 in
+    let trex = trex_known (mvex_place plan place ids + 8) id ids e in
+    (trex.0, rw (all, track_known plan (trexes_from (mvex_place plan place ids + 8) ids) id ids e, trex.1) refl)
+
+-- the tracks of the movie are those that were written
+pub tracks_are : (plan : SealPlan) (place : ℕ) (ids : List ℕ) → track_ids (movie_read plan place ids) ≡ ids
+tracks_are plan place ids = same_ids plan (place + 8) ids (trexes_from (mvex_place plan place ids + 8) ids)
+
+-- ---- the initialization data
+
+behind_stands : (plan : SealPlan) (file : List ℕ) (place : ℕ) (ids after : List ℕ) → Stands file place (flat_map (trak_box plan) ids ++ after) → Stands file (behind_tracks plan place ids) after
+behind_stands plan file place [] after s = s
+behind_stands plan file place (id ∷ ids) after s =
+    let flat : (trak_box plan id ++ flat_map (trak_box plan) ids) ++ after ≡ trak_box plan id ++ (flat_map (trak_box plan) ids ++ after) = append_assoc (trak_box plan id) (flat_map (trak_box plan) ids) after in
+    let P : List ℕ → Type 0 = λ bytes. Stands file place bytes in
+    let whole : Stands file place (trak_box plan id ++ (flat_map (trak_box plan) ids ++ after)) = subst P flat s in
+    behind_stands plan file (place + (8 + length (trak_body plan id))) ids after (stands_next file place (codes "trak") (trak_body plan id) (flat_map (trak_box plan) ids ++ after) refl whole)
+
+-- a whole box, by its span
+pub whole_box : (file : List ℕ) (place : ℕ) (kind body : List ℕ) → length kind ≡ 4 → Stands file place (boxed kind body) → box_bytes file (record { place = place; body_place = place + 8; len = length body }) ≡ boxed kind body
+unfolding boxed
+whole_box file place kind body k4 s =
+    let head = stands_left file place (to_be_bytes w32 (8 + length body) ++ kind) body s in
+    let size : place + 8 - place ≡ length (to_be_bytes w32 (8 + length body) ++ kind) = omega (arith, length-append (to_be_bytes w32 (8 + length body)) kind) in
+    let inner = stands_body file place kind body k4 s in
+    rw (size, head.same, inner.same) refl
+
+-- the pssh of the movie is the initialization data
+pub inits_again : (plan : SealPlan) (file : List ℕ) (place : ℕ) (ids : List ℕ) → Stands file place (boxed (codes "moov") (moov_body plan ids)) → inits_of file (movie_read plan place ids).psshs ≡ init_of plan ∷ []
+unfolding moov_body
+inits_again plan file place ids s =
+    let body = stands_body file place (codes "moov") (flat_map (trak_box plan) ids ++ (boxed (codes "mvex") (flat_map trex_box ids) ++ pssh_box (pssh_of plan))) refl s in
+    let after = behind_stands plan file (place + 8) ids (boxed (codes "mvex") (flat_map trex_box ids) ++ pssh_box (pssh_of plan)) body in
+    let pssh = stands_next file (mvex_place plan place ids) (codes "mvex") (flat_map trex_box ids) (pssh_box (pssh_of plan)) refl after in
+    rw (whole_box file (pssh_place (mvex_place plan place ids) ids) (codes "pssh") (pssh_body (pssh_of plan)) refl pssh, append-nil (pssh_box (pssh_of plan))) refl
