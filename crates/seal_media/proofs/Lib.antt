@@ -4,3 +4,4 @@ pub mod BackFields
 pub mod BackTable
 pub mod BackMovie
 pub mod BackProtection
+pub mod BackFragment
