@@ -5,3 +5,4 @@ pub mod BackTable
 pub mod BackMovie
 pub mod BackProtection
 pub mod BackFragment
+pub mod BackLaying
