@@ -6,3 +6,4 @@ pub mod BackMovie
 pub mod BackProtection
 pub mod BackFragment
 pub mod BackLaying
+pub mod BackSamples
