@@ -7,3 +7,5 @@ pub mod BackProtection
 pub mod BackFragment
 pub mod BackLaying
 pub mod BackSamples
+pub mod LengthLemmas
+pub mod BackResolved
