@@ -100,7 +100,7 @@ suits_item Cbcs constant (Sixteen iv) sub suits c p = (
 )
 
 -- what the senc says of a sample of the plan
-said_item : (plan : SealPlan) (s : EncSample) (has : HasPlan plan s) → item_of s ≡ record { iv = own_iv plan.scheme has.iv; subs = has.sub ∷ [] }
+pub said_item : (plan : SealPlan) (s : EncSample) (has : HasPlan plan s) → item_of s ≡ record { iv = own_iv plan.scheme has.iv; subs = has.sub ∷ [] }
 said_item plan s has = rw has.protect refl
 
 item_suits : (plan : SealPlan) (s : EncSample) → HasPlan plan s → SuitsItem true (item_of s)

@@ -9,3 +9,4 @@ pub mod BackLaying
 pub mod BackSamples
 pub mod LengthLemmas
 pub mod BackResolved
+pub mod BackTop
