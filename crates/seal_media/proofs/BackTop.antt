@@ -101,10 +101,10 @@ trafs_size plan ids offset (p ∷ ps) all =
       trafs_size plan ids (offset + part_bytes p) ps (All-tail (IsPart plan ids) p ps all),
     )
 
-moof_size : (plan : SealPlan) (ids : List ℕ) (ps : List TrackPart) → All (IsPart plan ids) ps → 8 + length (moof_body plan.scheme ps) ≡ moof_length plan.scheme ps
+pub moof_size : (plan : SealPlan) (ids : List ℕ) (ps : List TrackPart) → All (IsPart plan ids) ps → 8 + length (moof_body plan.scheme ps) ≡ moof_length plan.scheme ps
 moof_size plan ids ps all = omega (arith, trafs_size plan ids (moof_length plan.scheme ps + 8) ps all)
 
-all_data : (ps : List TrackPart) → length (mdat_body ps) ≡ sum_by part_bytes ps
+pub all_data : (ps : List TrackPart) → length (mdat_body ps) ≡ sum_by part_bytes ps
 all_data [] = refl
 all_data (p ∷ ps) = omega (arith, sum_by-cons part_bytes p ps, data_length p.samples, length-append (part_data p) (mdat_body ps), all_data ps)
 

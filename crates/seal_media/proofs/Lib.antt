@@ -10,3 +10,4 @@ pub mod BackSamples
 pub mod LengthLemmas
 pub mod BackResolved
 pub mod BackTop
+pub mod BackWhole
