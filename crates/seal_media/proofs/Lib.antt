@@ -1,3 +1,8 @@
+pub mod LengthLemmas
+pub mod TenthLemmas
+pub mod OpeningLemmas
+pub mod SealedLemmas
+pub mod RefusalLemmas
 pub mod BackStands
 pub mod BackWalk
 pub mod BackFields
@@ -7,7 +12,6 @@ pub mod BackProtection
 pub mod BackFragment
 pub mod BackLaying
 pub mod BackSamples
-pub mod LengthLemmas
 pub mod BackResolved
 pub mod BackTop
 pub mod BackWhole
