@@ -1,11 +1,11 @@
 // The whole file.
-ghost use Rattle.std.specs.Prelude.{◌≡◌, ◌+◌, ◌<◌, ◌≤◌, ◌^◌, [], ◌∷◌, length, sum_by, None, IfOk, IfErr, OnOk};
+ghost use Rattle.std.specs.Prelude.{◌≡◌, ◌+◌, ◌<◌, ◌≤◌, ◌^◌, [], ◌∷◌, length, sum_by, All, None, IfOk, IfErr, OnOk};
 ghost use Rattle.eme_types.specs.declared.limits.TheConstants.{MAX_SAMPLES, MAX_MEDIA_BYTES};
 ghost use Rattle.eme_types.specs.Fed.{part_samples, fragment_samples, IsFed};
 ghost use Rattle.seal_media.specs.Sealed.{init_of};
 ghost use Rattle.seal_media.specs.Lengths.{fragment_length, sealed_length};
 ghost use Rattle.seal_media.specs.Views.{HasSample, HasSamples, HasParts, HasFragment, HasFragments};
-ghost use Rattle.seal_media.specs.Answers.{IsFileOf, IsRefused};
+ghost use Rattle.seal_media.specs.Answers.{IsFileOf, IsReadAs, IsRefused};
 ghost use Rattle.seal_media.specs.Refusals.{refusal};
 
 use crate::cipher::seal_bytes;
@@ -131,11 +131,20 @@ fn file_of(alloc: Global, media: &Media, plan: &SealPlan, length: u64) -> Result
     Ok(Bytes::from_vec(file))
 }
 
+// A lead has 16 bits, and a track id has 32.
+fn have_widths(plan: &SealPlan, ids: &[u32])
+    ensures lead { plan.now.lead < 2 ^ 16 }
+    ensures ids { All (λ id. id < 2 ^ 32) ids.now }
+{
+    let _lead = plan.lead;
+}
+
 /// Makes a protected fragmented MP4 of clear media, all samples under the plan's one key. Refused are, fragment by fragment, the
 /// first that has initialization data or a protected sample, and then media whose file would have more than 67,108,864 bytes.
 pub fn seal(alloc: Global, media: &Media, plan: &SealPlan) -> Result<Bytes, SealFault>
     requires { IsFed media.now }
     ensures file { IfOk result (λ bytes. IsFileOf plan.now media.now bytes) }
+    ensures read { IfOk result (λ bytes. IsReadAs plan.now media.now bytes) }
     ensures length { IfOk result (λ bytes. length bytes ≡ sealed_length plan.now.scheme media.now) }
     ensures allowed { IfOk result (λ _. refusal plan.now media.now ≡ None) }
     ensures fault { IfErr result (λ fault. IsRefused plan.now media.now fault) }
@@ -146,5 +155,6 @@ pub fn seal(alloc: Global, media: &Media, plan: &SealPlan) -> Result<Bytes, Seal
     let Some(length) = length_of(plan.scheme, media) else {
         return Err(SealFault::TooLarge);
     };
+    have_widths(plan, media.tracks.as_slice());
     Ok(file_of(alloc, media, plan, length)?)
 }
