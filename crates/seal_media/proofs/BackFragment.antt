@@ -72,16 +72,16 @@ traf_again file place offset track sizes items small fits near few each s =
     let run = stands_next file (place + 8) (codes "tfhd") (tfhd_body track) (boxed (codes "trun") (trun_body offset sizes) ++ boxed (codes "senc") (senc_body (senc_said items))) refl whole in
     let last = stands_next file (trun_place place track) (codes "trun") (trun_body offset sizes) (boxed (codes "senc") (senc_body (senc_said items))) refl run in
     let third = reads_last header_fault part_at head_seen true file (codes "senc") (senc_body (senc_said items)) (senc_place place offset track sizes) false
-          (part.Placed (codes "senc") (senc_span place offset track sizes items)) refl small last refl in
+    (part.Placed (codes "senc") (senc_span place offset track sizes items)) refl small last refl in
     let second = reads_on header_fault part_at head_seen true file (codes "trun") (trun_body offset sizes) (boxed (codes "senc") (senc_body (senc_said items))) (trun_place place track) false
-          (part.Run (trun_read (trun_place place track) offset sizes))
-          (part.Placed (codes "senc") (senc_span place offset track sizes items) ∷ []) refl small run
-          (rw (trun_again (trun_place place track) offset sizes near few each) refl) third in
+    (part.Run (trun_read (trun_place place track) offset sizes))
+    (part.Placed (codes "senc") (senc_span place offset track sizes items) ∷ []) refl small run
+    (rw (trun_again (trun_place place track) offset sizes near few each) refl) third in
     let first = reads_on header_fault part_at head_seen false file (codes "tfhd") (tfhd_body track) (boxed (codes "trun") (trun_body offset sizes) ++ boxed (codes "senc") (senc_body (senc_said items))) (place + 8) false
-          (part.Head (tfhd_read (place + 8) track))
-          (part.Run (trun_read (trun_place place track) offset sizes) ∷ part.Placed (codes "senc") (senc_span place offset track sizes items) ∷ [])
-          refl small whole
-          (rw (tfhd_again (place + 8) track fits) refl) second in
+    (part.Head (tfhd_read (place + 8) track))
+    (part.Run (trun_read (trun_place place track) offset sizes) ∷ part.Placed (codes "senc") (senc_span place offset track sizes items) ∷ [])
+    refl small whole
+    (rw (tfhd_again (place + 8) track fits) refl) second in
     rw first refl
 
 -- ---- the track fragments of the parts

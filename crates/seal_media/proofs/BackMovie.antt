@@ -107,7 +107,7 @@ tracks_again plan file place known (id ∷ ids) after rest small fits new distin
     (part.Track (track_read plan place id)) (map part.Track (tracks_from plan (place + (8 + length (trak_body plan id))) ids) ++ rest) refl small whole
     (rw (room, trak_again plan file place id known small (All-head (λ n. n < 2 ^ 32) id ids fits) (not-true (among id known) is_new.0) first) refl)
     (tracks_again plan file (place + (8 + length (trak_body plan id))) (known ++ track_read plan place id ∷ []) ids after rest small (All-tail (λ n. n < 2 ^ 32) id ids fits)
-      (still_new known (track_read plan place id) ids is_new.1 (not-true (is_among ids id) apart.0)) apart.1 longer others more))
+    (still_new known (track_read plan place id) ids is_new.1 (not-true (is_among ids id) apart.0)) apart.1 longer others more))
 
 -- ---- the movie
 
@@ -169,7 +169,7 @@ moov_again plan file place ids small fits distinct few s =
     let body = stands_body file place (codes "moov") (flat_map (trak_box plan) ids ++ (boxed (codes "mvex") (flat_map trex_box ids) ++ pssh_box (pssh_of plan))) refl s in
     rw (
       tracks_again plan file (place + 8) [] ids (boxed (codes "mvex") (flat_map trex_box ids) ++ pssh_box (pssh_of plan)) (rest_of plan (mvex_place plan place ids) ids) small fits (nothing_known ids) distinct (omega arith) body
-        (λ learnt t. rest_again plan file (mvex_place plan place ids) ids learnt small fits t),
+          (λ learnt t. rest_again plan file (mvex_place plan place ids) ids learnt small fits t),
       only_tracks (tracks_from plan (place + 8) ids) (rest_of plan (mvex_place plan place ids) ids),
       no_trexes (tracks_from plan (place + 8) ids) (rest_of plan (mvex_place plan place ids) ids),
       no_psshs (tracks_from plan (place + 8) ids) (rest_of plan (mvex_place plan place ids) ids),

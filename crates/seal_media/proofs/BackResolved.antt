@@ -73,7 +73,7 @@ parts_resolved plan file known start at samples bytes place offset (p ∷ ps) al
     let moved : start + offset + length (part_data p) ≡ start + (offset + part_bytes p) = omega (arith, data_length p.samples) in
     let rest = stands_at file _ (start + (offset + part_bytes p)) (flat_map part_data ps) moved (stands_right file (start + offset) (part_data p) (flat_map part_data ps) stands) in
     let more = parts_resolved plan file known start (pos (start + offset + part_bytes p)) (samples - length p.samples) (bytes - part_bytes p) (place + (8 + length (part_body offset p))) (offset + part_bytes p) ps
-          (All-tail (PartHasPlan plan known) p ps all) (stands_next file place (codes "traf") (part_body offset p) (traf_boxes (offset + part_bytes p) ps) refl boxes) rest (omega arith) (omega arith) in
+    (All-tail (PartHasPlan plan known) p ps all) (stands_next file place (codes "traf") (part_body offset p) (traf_boxes (offset + part_bytes p) ps) refl boxes) rest (omega arith) (omega arith) in
     rw (part_resolved plan file known start at samples bytes place offset p here box first (omega arith) (omega arith), more) refl
 
 -- ---- parts of distinct tracks are not joined

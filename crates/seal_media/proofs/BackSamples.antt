@@ -194,8 +194,8 @@ pub samples_again : (plan : SealPlan) (file : List ℕ) (place at : ℕ) (ss : L
 unfolding samples_at sample_at
 samples_again plan file place at ss all stands =
     rw (ranges_count at ss) (numbers_again (λ k. sample_at file place (place_of (ranges_from at ss) k) (rule_of (plan_rules plan ss) k) (said_of (map item_of ss) k)) ss 0 (λ j s e.
-      let first : 0 + j ≡ j = omega arith in
-      rw (first, rule_at_index plan ss j s e, said_at ss j s e, protects_again plan place s (All-at plan ss j s all e), bytes_again file at ss j s stands e) refl))
+    let first : 0 + j ≡ j = omega arith in
+    rw (first, rule_at_index plan ss j s e, said_at ss j s e, protects_again plan place s (All-at plan ss j s all e), bytes_again file at ss j s stands e) refl))
 
 -- ---- the checks
 

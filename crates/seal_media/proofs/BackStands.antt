@@ -33,9 +33,9 @@ stands_right file place xs ys s =
     record {
       to = omega (arith, s.to);
       same =
-        ap (take (length ys)) (sym (drop-drop (length xs) place file))
-        ∙ (sym (drop-take (length xs) (length ys) (drop place file))
-        ∙ (ap (drop (length xs)) whole ∙ drop_at xs ys (length xs) refl));
+          ap (take (length ys)) (sym (drop-drop (length xs) place file))
+          ∙ (sym (drop-take (length xs) (length ys) (drop place file))
+          ∙ (ap (drop (length xs)) whole ∙ drop_at xs ys (length xs) refl));
     }
 
 -- at an equal place

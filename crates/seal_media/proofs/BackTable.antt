@@ -97,7 +97,7 @@ mdia_again plan file place small s =
     let minf = stands_body file place (codes "mdia") (boxed (codes "minf") (boxed (codes "stbl") (stbl_body plan))) refl s in
     let stbl = stands_body file (place + 8) (codes "minf") (boxed (codes "stbl") (stbl_body plan)) refl minf in
     let inner : minf_at (box_of (codes "minf") (boxed (codes "stbl") (stbl_body plan)) (place + 8)) ≡ Ok (table_read plan (place + 8 + 8)) =
-        rw (reads_only header_fault (is (codes "stbl")) stbl_at file (codes "stbl") (stbl_body plan) (place + 8 + 8) (table_read plan (place + 8 + 8)) refl small stbl refl (stbl_again plan file (place + 8 + 8) small stbl)) refl in
+    rw (reads_only header_fault (is (codes "stbl")) stbl_at file (codes "stbl") (stbl_body plan) (place + 8 + 8) (table_read plan (place + 8 + 8)) refl small stbl refl (stbl_again plan file (place + 8 + 8) small stbl)) refl in
     rw (reads_only header_fault (is (codes "minf")) minf_at file (codes "minf") (boxed (codes "stbl") (stbl_body plan)) (place + 8) (table_read plan (place + 8 + 8)) refl small minf refl inner) refl
 
 -- ---- the track
@@ -117,8 +117,8 @@ trak_again plan file place id tracks small fits new s =
     let whole = stands_body file place (codes "trak") (boxed (codes "tkhd") (tkhd_body id) ++ boxed (codes "mdia") (mdia_body plan)) refl s in
     let mdia = stands_next file (place + 8) (codes "tkhd") (tkhd_body id) (boxed (codes "mdia") (mdia_body plan)) refl whole in
     let parts = reads_on header_fault (trak_part_at tracks) saw (record { tkhd = false; mdia = false }) file (codes "tkhd") (tkhd_body id) (boxed (codes "mdia") (mdia_body plan)) (place + 8) false
-          (trak_part.Id id) (trak_part.Samples (table_read plan (mdia_place place id + 8 + 8)) ∷ []) refl small whole
-          (rw (tkhd_again id fits, new) refl)
-          (reads_last header_fault (trak_part_at tracks) saw (record { tkhd = true; mdia = false }) file (codes "mdia") (mdia_body plan) (mdia_place place id) false
-            (trak_part.Samples (table_read plan (mdia_place place id + 8 + 8))) refl small mdia (rw (mdia_again plan file (mdia_place place id) small mdia) refl)) in
+    (trak_part.Id id) (trak_part.Samples (table_read plan (mdia_place place id + 8 + 8)) ∷ []) refl small whole
+    (rw (tkhd_again id fits, new) refl)
+    (reads_last header_fault (trak_part_at tracks) saw (record { tkhd = true; mdia = false }) file (codes "mdia") (mdia_body plan) (mdia_place place id) false
+    (trak_part.Samples (table_read plan (mdia_place place id + 8 + 8))) refl small mdia (rw (mdia_again plan file (mdia_place place id) small mdia) refl)) in
     rw parts refl

@@ -162,7 +162,7 @@ fragment_again plan file place ids movie before f after small fits knows is stan
     rw (
       moof_again file place (moof_length plan.scheme f.parts + 8) f.parts (omega arith) (part_fits plan ids f.parts fits is.parts few) near moof,
       fragment_resolved plan file movie.protection place (moof_length plan.scheme f.parts + 8) (room_behind before) f.parts parts is.distinct
-        (stands_body file place (codes "moof") (moof_body plan.scheme f.parts) refl moof) content (omega arith) (omega arith),
+          (stands_body file place (codes "moof") (moof_body plan.scheme f.parts) refl moof) content (omega arith) (omega arith),
     ) refl
 
 -- ---- all fragments
@@ -190,8 +190,8 @@ fragments_again plan file place ids movie before (f ∷ fs) small fits knows has
     let moof = boxed (codes "moof") (moof_body plan.scheme f.parts) in
     let more = flat_map (fragment_boxes plan.scheme) fs in
     let flat : (boxed (codes "moof") (moof_body plan.scheme f.parts) ++ boxed (codes "mdat") (mdat_body f.parts)) ++ flat_map (fragment_boxes plan.scheme) fs
-             ≡ boxed (codes "moof") (moof_body plan.scheme f.parts) ++ (boxed (codes "mdat") (mdat_body f.parts) ++ flat_map (fragment_boxes plan.scheme) fs) =
-        append_assoc (boxed (codes "moof") (moof_body plan.scheme f.parts)) (boxed (codes "mdat") (mdat_body f.parts)) (flat_map (fragment_boxes plan.scheme) fs) in
+    ≡ boxed (codes "moof") (moof_body plan.scheme f.parts) ++ (boxed (codes "mdat") (mdat_body f.parts) ++ flat_map (fragment_boxes plan.scheme) fs) =
+    append_assoc (boxed (codes "moof") (moof_body plan.scheme f.parts)) (boxed (codes "mdat") (mdat_body f.parts)) (flat_map (fragment_boxes plan.scheme) fs) in
     let P : List ℕ → Type 0 = λ xs. Stands file place xs in
     let whole : Stands file place (boxed (codes "moof") (moof_body plan.scheme f.parts) ++ (boxed (codes "mdat") (mdat_body f.parts) ++ flat_map (fragment_boxes plan.scheme) fs)) = subst P flat stands in
     let at = place + (8 + length (moof_body plan.scheme f.parts)) in
@@ -200,18 +200,21 @@ fragments_again plan file place ids movie before (f ∷ fs) small fits knows has
     let behind : List TopPart = (before ++ part.Fragment (bare f) ∷ []) ++ part.Other ∷ [] in
     let kept = movie_kept (before ++ part.Fragment (bare f) ∷ []) part.Other movie (movie_kept before (part.Fragment (bare f)) movie has) in
     let gained : fragments_in ((before ++ part.Fragment (bare f) ∷ []) ++ part.Other ∷ []) ≡ fragments_in before ++ bare f ∷ [] =
-        fragments_end (before ++ part.Fragment (bare f) ∷ []) part.Other ∙ fragments_end before (part.Fragment (bare f)) in
+    fragments_end (before ++ part.Fragment (bare f) ∷ []) part.Other ∙ fragments_end before (part.Fragment (bare f)) in
     let here : top_part_at file (seen_from before) (box_of (codes "moof") (moof_body plan.scheme f.parts) place) ≡ Ok (part.Fragment (bare f)) =
-        rw (has, fragment_again plan file place ids movie (fragments_in before) f (flat_map (fragment_boxes plan.scheme) fs) small fits knows (All-head (IsFragment plan ids) f fs all) whole
-          (omega (arith, sum_by-cons fragment_samples f fs)) (omega (arith, sum_by-cons fragment_bytes f fs))) refl in
+    rw (
+      has,
+      fragment_again plan file place ids movie (fragments_in before) f (flat_map (fragment_boxes plan.scheme) fs) small fits knows (All-head (IsFragment plan ids) f fs all) whole
+          (omega (arith, sum_by-cons fragment_samples f fs)) (omega (arith, sum_by-cons fragment_bytes f fs)),
+    ) refl in
     let then = fragments_again plan file (place + (8 + length (moof_body plan.scheme f.parts)) + (8 + length (mdat_body f.parts))) ids movie ((before ++ part.Fragment (bare f) ∷ []) ++ part.Other ∷ []) fs small fits knows kept
-          (All-tail (IsFragment plan ids) f fs all) others
-          (rw gained (omega (arith, sum_by-cons fragment_samples f fs, sum_by_push fragment_samples (fragments_in before) (bare f))))
-          (rw gained (omega (arith, sum_by-cons fragment_bytes f fs, sum_by_push fragment_bytes (fragments_in before) (bare f)))) in
+    (All-tail (IsFragment plan ids) f fs all) others
+    (rw gained (omega (arith, sum_by-cons fragment_samples f fs, sum_by_push fragment_samples (fragments_in before) (bare f))))
+    (rw gained (omega (arith, sum_by-cons fragment_bytes f fs, sum_by_push fragment_bytes (fragments_in before) (bare f)))) in
     rw flat (reads_on header_fault (λ known b. top_part_at file (seen_from known) b) followed_by before file (codes "moof") (moof_body plan.scheme f.parts) (boxed (codes "mdat") (mdat_body f.parts) ++ flat_map (fragment_boxes plan.scheme) fs) place true
-      (part.Fragment (bare f)) (part.Other ∷ parts_of fs) refl (omega arith) whole here
-      (reads_on header_fault (λ known b. top_part_at file (seen_from known) b) followed_by (before ++ part.Fragment (bare f) ∷ []) file (codes "mdat") (mdat_body f.parts) (flat_map (fragment_boxes plan.scheme) fs) (place + (8 + length (moof_body plan.scheme f.parts))) true
-        part.Other (parts_of fs) refl (omega arith) rest refl then))
+    (part.Fragment (bare f)) (part.Other ∷ parts_of fs) refl (omega arith) whole here
+    (reads_on header_fault (λ known b. top_part_at file (seen_from known) b) followed_by (before ++ part.Fragment (bare f) ∷ []) file (codes "mdat") (mdat_body f.parts) (flat_map (fragment_boxes plan.scheme) fs) (place + (8 + length (moof_body plan.scheme f.parts))) true
+    part.Other (parts_of fs) refl (omega arith) rest refl then))
 
 -- ---- the file
 
@@ -256,11 +259,11 @@ reads_back plan m k i fits distinct few all samples bytes inits small =
     let size : 8 + length (moov_body plan m.tracks) ≤ 67108864 = omega (arith, moov.to, boxed_length (codes "moov") (moov_body plan m.tracks) refl) in
     let kept = kept_movie plan (sealed_file plan m) 0 m.tracks in
     let movie : top_part_at (sealed_file plan m) (seen_from []) (box_of (codes "moov") (moov_body plan m.tracks) 0) ≡ Ok (part.Movie (kept_movie plan (sealed_file plan m) 0 m.tracks)) =
-        rw (movie_again plan (sealed_file plan m) 0 m.tracks (omega arith) k i fits distinct few moov) refl in
+    rw (movie_again plan (sealed_file plan m) 0 m.tracks (omega arith) k i fits distinct few moov) refl in
     let fragments = fragments_again plan (sealed_file plan m) (0 + (8 + length (moov_body plan m.tracks))) m.tracks (kept_movie plan (sealed_file plan m) 0 m.tracks) (part.Movie (kept_movie plan (sealed_file plan m) 0 m.tracks) ∷ []) m.fragments (omega arith) fits
-          (λ id e. track_is_known plan (sealed_file plan m) 0 m.tracks id (omega arith) k i moov e) refl all others (omega arith) (omega arith) in
+    (λ id e. track_is_known plan (sealed_file plan m) 0 m.tracks id (omega arith) k i moov e) refl all others (omega arith) (omega arith) in
     let parts = reads_on header_fault (λ known b. top_part_at (sealed_file plan m) (seen_from known) b) followed_by [] (sealed_file plan m) (codes "moov") (moov_body plan m.tracks) (flat_map (fragment_boxes plan.scheme) m.fragments) 0 true
-          (part.Movie (kept_movie plan (sealed_file plan m) 0 m.tracks)) (parts_of m.fragments) refl (omega arith) whole movie fragments in
+    (part.Movie (kept_movie plan (sealed_file plan m) 0 m.tracks)) (parts_of m.fragments) refl (omega arith) whole movie fragments in
     rw (
       not_a_list (moov_body plan m.tracks) (flat_map (fragment_boxes plan.scheme) m.fragments) size,
       parts,

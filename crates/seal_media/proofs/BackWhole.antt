@@ -144,8 +144,7 @@ fragments_alike plan number given [] (g ∷ gs) are = absurd are
 fragments_alike plan number given (f ∷ fs) [] are = absurd are
 fragments_alike plan number given (f ∷ fs) (g ∷ gs) are =
     let one = parts_alike plan number f.parts g.parts are.0.parts in
-    let more = fragments_alike plan (number + fragment_samples f) [] fs gs are.1 in
-    (
+    let more = fragments_alike plan (number + fragment_samples f) [] fs gs are.1 in (
       omega (arith, one.samples, more.0, sum_by-cons fragment_samples g gs, sum_by-cons fragment_samples f fs),
       (
         omega (arith, one.bytes, more.1.0, sum_by-cons fragment_bytes g gs, sum_by-cons fragment_bytes f fs),

@@ -13,10 +13,12 @@ const KEY: [u8; 16] = *b"\x2b\x7e\x15\x16\x28\xae\xd2\xa6\xab\xf7\x15\x88\x09\xc
 
 // The plaintext there, and its first ciphertext.
 const BLOCK: [u8; 16] = *b"\x6b\xc1\xbe\xe2\x2e\x40\x9f\x96\xe9\x3d\x7e\x11\x73\x93\x17\x2a";
+
 const SEALED: [u8; 16] = *b"\x76\x49\xab\xac\x81\x19\xb2\x46\xce\xe9\x8e\x9b\x12\xe9\x19\x7d";
 
 // The pssh of version 1 with the Common SystemID and this key id.
-const PSSH: [u8; 52] = *b"\0\0\0\x34pssh\x01\0\0\0\x10\x77\xef\xec\xc0\xb2\x4d\x02\xac\xe3\x3c\x1e\x52\xe2\xfb\x4b\0\0\0\x01\x00\x01\x02\x03\x04\x05\x06\x07\x08\x09\x0a\x0b\x0c\x0d\x0e\x0f\0\0\0\0";
+const PSSH: [u8; 52] =
+    *b"\0\0\0\x34pssh\x01\0\0\0\x10\x77\xef\xec\xc0\xb2\x4d\x02\xac\xe3\x3c\x1e\x52\xe2\xfb\x4b\0\0\0\x01\x00\x01\x02\x03\x04\x05\x06\x07\x08\x09\x0a\x0b\x0c\x0d\x0e\x0f\0\0\0\0";
 
 const ONE_BLOCK: &[u8] =
     b"SMPL 1\ntrack 1\nfragment\nsample 1 clear 6bc1bee22e409f96e93d7e117393172a\n";
@@ -129,7 +131,12 @@ fn sealed_media_are_opened(rt: HostRuntime) -> Result<(), Fail> {
                 let sealed = sealed_again(alloc, &clear, &plan)?;
                 assert_eq!(rt; sealed.tracks.as_slice(), clear.tracks.as_slice());
                 assert_eq!(rt; sealed.fragments.len(), clear.fragments.len());
-                for (c, s) in clear.fragments.as_slice().iter().zip(sealed.fragments.as_slice()) {
+                for (c, s) in clear
+                    .fragments
+                    .as_slice()
+                    .iter()
+                    .zip(sealed.fragments.as_slice())
+                {
                     assert!(rt; fragment_opens(alloc, &plan, c, s)?);
                 }
             }
