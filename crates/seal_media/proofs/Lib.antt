@@ -1,0 +1,17 @@
+pub mod LengthLemmas
+pub mod TenthLemmas
+pub mod OpeningLemmas
+pub mod SealedLemmas
+pub mod RefusalLemmas
+pub mod BackStands
+pub mod BackWalk
+pub mod BackFields
+pub mod BackTable
+pub mod BackMovie
+pub mod BackProtection
+pub mod BackFragment
+pub mod BackLaying
+pub mod BackSamples
+pub mod BackResolved
+pub mod BackTop
+pub mod BackWhole
