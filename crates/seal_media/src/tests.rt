@@ -1,5 +1,7 @@
+ghost use Rattle.eme_types.specs.Fed.{IsFed};
+
 use crate::{SealFault, SealPlan, seal};
-use eme_types::{EncSample, Fragment, Iv, KeyBytes, Media, Scheme};
+use eme_types::{EncSample, Fragment, Iv, KeyBytes, Media, Scheme, TrackPart};
 use pattern_map::check_sample;
 use sample_crypt::open_sample;
 use std::alloc::{AllocError, Global};
@@ -34,7 +36,9 @@ fn plan_of(scheme: Scheme, lead: u16) -> SealPlan {
 }
 
 // The media of the sealed file of a sample list.
-fn sealed_again(alloc: Global, clear: &Media, plan: &SealPlan) -> Result<Media, MediaFault> {
+fn sealed_again(alloc: Global, clear: &Media, plan: &SealPlan) -> Result<Media, MediaFault>
+    requires { IsFed clear.now }
+{
     match seal(alloc, clear, plan) {
         Ok(file) => parse_media(alloc, file.as_slice()),
         Err(_) => Err(MediaFault::OutOfMemory),
@@ -98,6 +102,24 @@ fn opens(
     Ok(opened.as_slice() == clear.bytes.as_slice())
 }
 
+fn part_opens(
+    alloc: Global,
+    plan: &SealPlan,
+    clear: &TrackPart,
+    sealed: &TrackPart,
+) -> Result<bool, AllocError> {
+    let mut same = clear.track == sealed.track && clear.samples.len() == sealed.samples.len();
+    for (c, s) in clear
+        .samples
+        .as_slice()
+        .iter()
+        .zip(sealed.samples.as_slice())
+    {
+        same = opens(alloc, plan, c, s)? && same;
+    }
+    Ok(same)
+}
+
 fn fragment_opens(
     alloc: Global,
     plan: &SealPlan,
@@ -106,12 +128,37 @@ fn fragment_opens(
 ) -> Result<bool, AllocError> {
     let mut same = clear.parts.len() == sealed.parts.len();
     for (c, s) in clear.parts.as_slice().iter().zip(sealed.parts.as_slice()) {
-        same = same && c.track == s.track && c.samples.len() == s.samples.len();
-        for (one, other) in c.samples.as_slice().iter().zip(s.samples.as_slice()) {
-            same = opens(alloc, plan, one, other)? && same;
-        }
+        same = part_opens(alloc, plan, c, s)? && same;
     }
     Ok(same)
+}
+
+fn media_opens(alloc: Global, plan: &SealPlan, clear: &Media) -> Result<bool, MediaFault>
+    requires { IsFed clear.now }
+{
+    let sealed = sealed_again(alloc, clear, plan)?;
+    let mut same = clear.fragments.len() == sealed.fragments.len();
+    for (c, s) in clear
+        .fragments
+        .as_slice()
+        .iter()
+        .zip(sealed.fragments.as_slice())
+    {
+        match fragment_opens(alloc, plan, c, s) {
+            Ok(opens) => same = same && opens,
+            Err(_) => return Err(MediaFault::OutOfMemory),
+        }
+    }
+    Ok(same && sealed.tracks.as_slice() == clear.tracks.as_slice())
+}
+
+fn leads_open(alloc: Global, scheme: Scheme, clear: &Media) -> Result<bool, MediaFault>
+    requires { IsFed clear.now }
+{
+    let none = media_opens(alloc, &plan_of(scheme, 0), clear)?;
+    let one = media_opens(alloc, &plan_of(scheme, 1), clear)?;
+    let all = media_opens(alloc, &plan_of(scheme, 65535), clear)?;
+    Ok(none && one && all)
 }
 
 // Without fragments, without parts, with empty samples, with tracks of great ids, and with 8 of them.
@@ -125,22 +172,8 @@ fn sealed_media_are_opened(rt: HostRuntime) -> Result<(), Fail> {
         b"SMPL 1\ntrack 1\ntrack 2\ntrack 3\ntrack 4\ntrack 5\ntrack 6\ntrack 7\ntrack 8\nfragment\nsample 8 clear 00\nsample 1 clear 6bc1bee22e409f96e93d7e117393172a6b\n",
     ] {
         let clear = parse_media(alloc, text)?;
-        for scheme in [Scheme::Cenc, Scheme::Cbcs] {
-            for lead in [0, 1, 65535] {
-                let plan = plan_of(scheme, lead);
-                let sealed = sealed_again(alloc, &clear, &plan)?;
-                assert_eq!(rt; sealed.tracks.as_slice(), clear.tracks.as_slice());
-                assert_eq!(rt; sealed.fragments.len(), clear.fragments.len());
-                for (c, s) in clear
-                    .fragments
-                    .as_slice()
-                    .iter()
-                    .zip(sealed.fragments.as_slice())
-                {
-                    assert!(rt; fragment_opens(alloc, &plan, c, s)?);
-                }
-            }
-        }
+        assert!(rt; leads_open(alloc, Scheme::Cenc, &clear)?);
+        assert!(rt; leads_open(alloc, Scheme::Cbcs, &clear)?);
     }
     Ok(())
 }
