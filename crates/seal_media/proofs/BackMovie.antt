@@ -1,24 +1,23 @@
 -- A movie that was written is read again: its tracks, what holds for their samples, and its initialization data.
-use Rattle.std.proofs.Common.{◌≡◌, ℕ, ◌+◌, ◌^◌, ◌<◌, ◌≤◌, Bool, true, false, List, [], ◌∷◌, ◌++◌, length, map, codes, Option, Some, None, Result, Ok, Err, refl, sym, ap, subst, ◌∙◌, inl, inr, arith, append_assoc, append-nil, length-append}
-use Rattle.std.specs.Prelude.{◌==◌, ◌||◌, not, nat_lt}
+use Rattle.std.proofs.Common.{◌≡◌, ℕ, ◌+◌, ◌^◌, ◌<◌, ◌≤◌, Bool, true, false, List, [], ◌∷◌, ◌++◌, length, map, codes, Some, Ok, refl, sym, ap, subst, arith, append_assoc, append-nil, length-append}
+use Rattle.std.specs.Prelude.{◌==◌, not, nat_lt}
 use Rattle.std.specs.List.{All, flat_map, list_all}
-use Rattle.std.proofs.lemmas.Bool.{lt-ltb, and_parts, or_parts, and_from, not-true, eqb-false, ne_eqb}
+use Rattle.std.proofs.lemmas.Bool.{lt-ltb, and_parts, or_parts, not-true, eqb-false, ne_eqb}
 use Rattle.std.proofs.lemmas.List.Elements.{All-head, All-tail}
 use Rattle.eme_types.specs.Fed.{is_among, are_distinct}
-use Rattle.iso_boxes.specs.Walk.{Found, inside, walk}
+use Rattle.iso_boxes.specs.Walk.{walk}
 use Rattle.iso_boxes.specs.Writing.{boxed}
 use Rattle.iso_boxes.specs.Children.{all_knowing}
 use Rattle.prot_boxes.proofs.Again.{box_of}
 use Rattle.init_data.specs.Pssh.{pssh_body, pssh_box}
-use Rattle.frag_boxes.specs.declared.fault.FragFault.{FragFault}
 use Rattle.frag_boxes.specs.declared.records.Span.{Span}
 use Rattle.frag_boxes.specs.declared.records.MovieTrack.{MovieTrack}
 use Rattle.frag_boxes.specs.declared.records.Movie.{Movie}
 use Rattle.frag_boxes.specs.declared.records.TrackTrex.{TrackTrex}
 use Rattle.frag_boxes.specs.declared.moov.MoovPart.{MoovPart}
 use Rattle.frag_boxes.specs.declared.moov.MoovPart.TheVariants as part
-use Rattle.frag_boxes.specs.Moof.{header_fault, span}
-use Rattle.frag_boxes.specs.Table.{is, somes}
+use Rattle.frag_boxes.specs.Moof.{header_fault}
+use Rattle.frag_boxes.specs.Table.{somes}
 use Rattle.frag_boxes.specs.Moov.{among, mvex_part_at, mvex_at, with_trex, moov_box, moov_part_at, with_track, tracks_of, moov_psshs, trexes_of, moov_at}
 use Rattle.seal_media.specs.declared.plan.SealPlan.{SealPlan}
 use Rattle.seal_media.specs.Sealed.{pssh_of}
@@ -107,7 +106,7 @@ tracks_again plan file place known (id ∷ ids) after rest small fits new distin
     (part.Track (track_read plan place id)) (map part.Track (tracks_from plan (place + (8 + length (trak_body plan id))) ids) ++ rest) refl small whole
     (rw (room, trak_again plan file place id known small (All-head (λ n. n < 2 ^ 32) id ids fits) (not-true (among id known) is_new.0) first) refl)
     (tracks_again plan file (place + (8 + length (trak_body plan id))) (known ++ track_read plan place id ∷ []) ids after rest small (All-tail (λ n. n < 2 ^ 32) id ids fits)
-      (still_new known (track_read plan place id) ids is_new.1 (not-true (is_among ids id) apart.0)) apart.1 longer others more))
+    (still_new known (track_read plan place id) ids is_new.1 (not-true (is_among ids id) apart.0)) apart.1 longer others more))
 
 -- ---- the movie
 
@@ -169,7 +168,7 @@ moov_again plan file place ids small fits distinct few s =
     let body = stands_body file place (codes "moov") (flat_map (trak_box plan) ids ++ (boxed (codes "mvex") (flat_map trex_box ids) ++ pssh_box (pssh_of plan))) refl s in
     rw (
       tracks_again plan file (place + 8) [] ids (boxed (codes "mvex") (flat_map trex_box ids) ++ pssh_box (pssh_of plan)) (rest_of plan (mvex_place plan place ids) ids) small fits (nothing_known ids) distinct (omega arith) body
-        (λ learnt t. rest_again plan file (mvex_place plan place ids) ids learnt small fits t),
+          (λ learnt t. rest_again plan file (mvex_place plan place ids) ids learnt small fits t),
       only_tracks (tracks_from plan (place + 8) ids) (rest_of plan (mvex_place plan place ids) ids),
       no_trexes (tracks_from plan (place + 8) ids) (rest_of plan (mvex_place plan place ids) ids),
       no_psshs (tracks_from plan (place + 8) ids) (rest_of plan (mvex_place plan place ids) ids),

@@ -1,14 +1,13 @@
 -- A track that was written is read again: its sample table with one protected entry, and its id.
-use Rattle.std.proofs.Common.{◌≡◌, ℕ, ◌+◌, ◌^◌, ◌<◌, ◌≤◌, Bool, true, false, ltb, List, [], ◌∷◌, ◌++◌, length, drop, replicate, codes, Option, Some, None, Result, Ok, Err, refl, sym, ap, ◌∙◌, arith}
+use Rattle.std.proofs.Common.{◌≡◌, ℕ, ◌+◌, ◌^◌, ◌<◌, true, false, ltb, List, [], ◌∷◌, ◌++◌, length, replicate, codes, None, Ok, refl, arith}
 use Rattle.std.specs.Int.{w32, to_be_bytes}
 use Rattle.std.proofs.lemmas.Bool.{le-ltb}
 use Rattle.std.proofs.lemmas.List.{drop_at, length-append}
-use Rattle.iso_boxes.specs.Walk.{Found, inside, walk, before}
+use Rattle.iso_boxes.specs.Walk.{walk}
 use Rattle.iso_boxes.specs.Writing.{boxed}
-use Rattle.iso_boxes.specs.Children.{each_knowing, first_read}
+use Rattle.iso_boxes.specs.Children.{each_knowing}
 use Rattle.prot_boxes.proofs.Again.{box_of}
 use Rattle.prot_boxes.specs.Sinf.{sinf_body}
-use Rattle.frag_boxes.specs.declared.records.Span.{Span}
 use Rattle.frag_boxes.specs.declared.records.SampleEntry.{SampleEntry}
 use Rattle.frag_boxes.specs.declared.records.MovieTrack.{MovieTrack}
 use Rattle.frag_boxes.specs.declared.table.Table.{Table}
@@ -19,8 +18,8 @@ use Rattle.frag_boxes.specs.Table.{is, behind, entry_box, sinf_part, protected_a
 use Rattle.frag_boxes.specs.Moov.{among, tkhd_at, trak_box, trak_part_at, saw, trak_at}
 use Rattle.seal_media.specs.declared.plan.SealPlan.{SealPlan}
 use Rattle.seal_media.specs.Layout.{sinf_of, tkhd_body, encv_body, stsd_body, stsz_body, stbl_body, mdia_body, trak_body}
-use Rattle.seal_media.proofs.BackStands.{Stands, stands_left, stands_right, stands_at, stands_body, stands_next, stands_fits}
-use Rattle.seal_media.proofs.BackWalk.{end, one_box, reads_on, reads_last, reads_only}
+use Rattle.seal_media.proofs.BackStands.{Stands, stands_left, stands_right, stands_body, stands_next, stands_fits}
+use Rattle.seal_media.proofs.BackWalk.{one_box, reads_on, reads_last, reads_only}
 use Rattle.seal_media.proofs.BackFields.{tkhd_again, stsz_again, stsd_again}
 
 -- the boxes behind fields
@@ -97,7 +96,7 @@ mdia_again plan file place small s =
     let minf = stands_body file place (codes "mdia") (boxed (codes "minf") (boxed (codes "stbl") (stbl_body plan))) refl s in
     let stbl = stands_body file (place + 8) (codes "minf") (boxed (codes "stbl") (stbl_body plan)) refl minf in
     let inner : minf_at (box_of (codes "minf") (boxed (codes "stbl") (stbl_body plan)) (place + 8)) ≡ Ok (table_read plan (place + 8 + 8)) =
-        rw (reads_only header_fault (is (codes "stbl")) stbl_at file (codes "stbl") (stbl_body plan) (place + 8 + 8) (table_read plan (place + 8 + 8)) refl small stbl refl (stbl_again plan file (place + 8 + 8) small stbl)) refl in
+    rw (reads_only header_fault (is (codes "stbl")) stbl_at file (codes "stbl") (stbl_body plan) (place + 8 + 8) (table_read plan (place + 8 + 8)) refl small stbl refl (stbl_again plan file (place + 8 + 8) small stbl)) refl in
     rw (reads_only header_fault (is (codes "minf")) minf_at file (codes "minf") (boxed (codes "stbl") (stbl_body plan)) (place + 8) (table_read plan (place + 8 + 8)) refl small minf refl inner) refl
 
 -- ---- the track
@@ -117,8 +116,8 @@ trak_again plan file place id tracks small fits new s =
     let whole = stands_body file place (codes "trak") (boxed (codes "tkhd") (tkhd_body id) ++ boxed (codes "mdia") (mdia_body plan)) refl s in
     let mdia = stands_next file (place + 8) (codes "tkhd") (tkhd_body id) (boxed (codes "mdia") (mdia_body plan)) refl whole in
     let parts = reads_on header_fault (trak_part_at tracks) saw (record { tkhd = false; mdia = false }) file (codes "tkhd") (tkhd_body id) (boxed (codes "mdia") (mdia_body plan)) (place + 8) false
-          (trak_part.Id id) (trak_part.Samples (table_read plan (mdia_place place id + 8 + 8)) ∷ []) refl small whole
-          (rw (tkhd_again id fits, new) refl)
-          (reads_last header_fault (trak_part_at tracks) saw (record { tkhd = true; mdia = false }) file (codes "mdia") (mdia_body plan) (mdia_place place id) false
-            (trak_part.Samples (table_read plan (mdia_place place id + 8 + 8))) refl small mdia (rw (mdia_again plan file (mdia_place place id) small mdia) refl)) in
+    (trak_part.Id id) (trak_part.Samples (table_read plan (mdia_place place id + 8 + 8)) ∷ []) refl small whole
+    (rw (tkhd_again id fits, new) refl)
+    (reads_last header_fault (trak_part_at tracks) saw (record { tkhd = true; mdia = false }) file (codes "mdia") (mdia_body plan) (mdia_place place id) false
+    (trak_part.Samples (table_read plan (mdia_place place id + 8 + 8))) refl small mdia (rw (mdia_again plan file (mdia_place place id) small mdia) refl)) in
     rw parts refl
