@@ -56,9 +56,9 @@ counted c d j lt =
     let from : 0 + c ≡ c = omega arith in
     let none : count test c ≡ 0 = rw from at (count_same test 0 c (λ k low high. rw (spot_clear 0 (pair c d) [] k (omega arith)) refl)) in
     let more = count_more test c j (λ k low high.
-      let there : c + (k - c) ≡ k = omega arith in
-      let spot = rw there at (spot_part 0 (pair c d) [] (k - c) (omega arith)) in
-      rw spot refl) in
+    let there : c + (k - c) ≡ k = omega arith in
+    let spot = rw there at (spot_part 0 (pair c d) [] (k - c) (omega arith)) in
+    rw spot refl) in
     omega (arith, none, more)
 
 abbrev streamed : List ℕ → Iv → ℕ → ℕ → Protect
@@ -73,8 +73,8 @@ stream_opens key kid iv c d was now sum len lead part =
     opened_to key p was now len (by_part (λ i. get_or was i 0 ≡ clear_byte key p now i) c d (length was) sum
     (λ i lt. rw (spot_clear 0 (pair c d) [] i lt) (sym (lead i lt)))
     (λ j lt.
-      let added = rw (get_or-drop c now j 0, get_or-drop c was j 0) at (part.added j (omega (arith, n))) in
-      rw (spot_part 0 (pair c d) [] j lt, counted c d j lt, added) (sym (xor_twice (get_or was (c + j) 0) (stream_byte key (iv_bytes iv) j)))))
+    let added = rw (get_or-drop c now j 0, get_or-drop c was j 0) at (part.added j (omega (arith, n))) in
+    rw (spot_part 0 (pair c d) [] j lt, counted c d j lt, added) (sym (xor_twice (get_or was (c + j) 0) (stream_byte key (iv_bytes iv) j)))))
 
 -- ---- one block in ten
 
@@ -210,7 +210,7 @@ sealed_opens back plan number c n was ys fk fi fw fn is left ys_len part =
     let now = put_mid c n was ys in
     let len = put_length c n was ys (omega (arith, is, left)) ys_len in
     let behind : drop c now ≡ ys =
-      sym (take_all (length was - c) (drop c now) (omega (arith, length-drop c now, len))) ∙ between-put_mid c n was ys (length was) (omega arith) (omega (arith, ys_len, left)) in
+    sym (take_all (length was - c) (drop c now) (omega (arith, length-drop c now, len))) ∙ between-put_mid c n was ys (length was) (omega arith) (omega (arith, ys_len, left)) in
     by_scheme back plan.scheme plan.kid plan.key.bytes plan.iv plan.lead number was now fk fi fw fn len
     (λ i lt. before c n was ys i (omega arith) (omega (arith, is, lt)))
     (rw (sym is, behind) part)

@@ -40,12 +40,7 @@ fn put_own_iv(body: &mut Bytes, plan: &SealPlan, number: u64) -> Result<(), Allo
 
 // The IV of a sample, and its one pair.
 #[tactic(auto, unfolding(prot_boxes::specs::Senc::subs_body))]
-fn put_item(
-    body: &mut Bytes,
-    plan: &SealPlan,
-    number: u64,
-    size: usize,
-) -> Result<(), AllocError>
+fn put_item(body: &mut Bytes, plan: &SealPlan, number: u64, size: usize) -> Result<(), AllocError>
     requires { size < 2 ^ 32 }
     ensures { OnOk result (body.new ≡ body.old ++ item_body true (item_at plan.now number size)) }
 {

@@ -1,5 +1,7 @@
+ghost use Rattle.eme_types.specs.Fed.{IsFed};
+
 use crate::{SealFault, SealPlan, seal};
-use eme_types::{EncSample, Fragment, Iv, KeyBytes, Media, Scheme};
+use eme_types::{EncSample, Fragment, Iv, KeyBytes, Media, Scheme, TrackPart};
 use pattern_map::check_sample;
 use sample_crypt::open_sample;
 use std::alloc::{AllocError, Global};
@@ -13,10 +15,12 @@ const KEY: [u8; 16] = *b"\x2b\x7e\x15\x16\x28\xae\xd2\xa6\xab\xf7\x15\x88\x09\xc
 
 // The plaintext there, and its first ciphertext.
 const BLOCK: [u8; 16] = *b"\x6b\xc1\xbe\xe2\x2e\x40\x9f\x96\xe9\x3d\x7e\x11\x73\x93\x17\x2a";
+
 const SEALED: [u8; 16] = *b"\x76\x49\xab\xac\x81\x19\xb2\x46\xce\xe9\x8e\x9b\x12\xe9\x19\x7d";
 
 // The pssh of version 1 with the Common SystemID and this key id.
-const PSSH: [u8; 52] = *b"\0\0\0\x34pssh\x01\0\0\0\x10\x77\xef\xec\xc0\xb2\x4d\x02\xac\xe3\x3c\x1e\x52\xe2\xfb\x4b\0\0\0\x01\x00\x01\x02\x03\x04\x05\x06\x07\x08\x09\x0a\x0b\x0c\x0d\x0e\x0f\0\0\0\0";
+const PSSH: [u8; 52] =
+    *b"\0\0\0\x34pssh\x01\0\0\0\x10\x77\xef\xec\xc0\xb2\x4d\x02\xac\xe3\x3c\x1e\x52\xe2\xfb\x4b\0\0\0\x01\x00\x01\x02\x03\x04\x05\x06\x07\x08\x09\x0a\x0b\x0c\x0d\x0e\x0f\0\0\0\0";
 
 const ONE_BLOCK: &[u8] =
     b"SMPL 1\ntrack 1\nfragment\nsample 1 clear 6bc1bee22e409f96e93d7e117393172a\n";
@@ -32,7 +36,9 @@ fn plan_of(scheme: Scheme, lead: u16) -> SealPlan {
 }
 
 // The media of the sealed file of a sample list.
-fn sealed_again(alloc: Global, clear: &Media, plan: &SealPlan) -> Result<Media, MediaFault> {
+fn sealed_again(alloc: Global, clear: &Media, plan: &SealPlan) -> Result<Media, MediaFault>
+    requires { IsFed clear.now }
+{
     match seal(alloc, clear, plan) {
         Ok(file) => parse_media(alloc, file.as_slice()),
         Err(_) => Err(MediaFault::OutOfMemory),
@@ -96,6 +102,24 @@ fn opens(
     Ok(opened.as_slice() == clear.bytes.as_slice())
 }
 
+fn part_opens(
+    alloc: Global,
+    plan: &SealPlan,
+    clear: &TrackPart,
+    sealed: &TrackPart,
+) -> Result<bool, AllocError> {
+    let mut same = clear.track == sealed.track && clear.samples.len() == sealed.samples.len();
+    for (c, s) in clear
+        .samples
+        .as_slice()
+        .iter()
+        .zip(sealed.samples.as_slice())
+    {
+        same = opens(alloc, plan, c, s)? && same;
+    }
+    Ok(same)
+}
+
 fn fragment_opens(
     alloc: Global,
     plan: &SealPlan,
@@ -104,12 +128,37 @@ fn fragment_opens(
 ) -> Result<bool, AllocError> {
     let mut same = clear.parts.len() == sealed.parts.len();
     for (c, s) in clear.parts.as_slice().iter().zip(sealed.parts.as_slice()) {
-        same = same && c.track == s.track && c.samples.len() == s.samples.len();
-        for (one, other) in c.samples.as_slice().iter().zip(s.samples.as_slice()) {
-            same = opens(alloc, plan, one, other)? && same;
-        }
+        same = part_opens(alloc, plan, c, s)? && same;
     }
     Ok(same)
+}
+
+fn media_opens(alloc: Global, plan: &SealPlan, clear: &Media) -> Result<bool, MediaFault>
+    requires { IsFed clear.now }
+{
+    let sealed = sealed_again(alloc, clear, plan)?;
+    let mut same = clear.fragments.len() == sealed.fragments.len();
+    for (c, s) in clear
+        .fragments
+        .as_slice()
+        .iter()
+        .zip(sealed.fragments.as_slice())
+    {
+        match fragment_opens(alloc, plan, c, s) {
+            Ok(opens) => same = same && opens,
+            Err(_) => return Err(MediaFault::OutOfMemory),
+        }
+    }
+    Ok(same && sealed.tracks.as_slice() == clear.tracks.as_slice())
+}
+
+fn leads_open(alloc: Global, scheme: Scheme, clear: &Media) -> Result<bool, MediaFault>
+    requires { IsFed clear.now }
+{
+    let none = media_opens(alloc, &plan_of(scheme, 0), clear)?;
+    let one = media_opens(alloc, &plan_of(scheme, 1), clear)?;
+    let all = media_opens(alloc, &plan_of(scheme, 65535), clear)?;
+    Ok(none && one && all)
 }
 
 // Without fragments, without parts, with empty samples, with tracks of great ids, and with 8 of them.
@@ -123,17 +172,8 @@ fn sealed_media_are_opened(rt: HostRuntime) -> Result<(), Fail> {
         b"SMPL 1\ntrack 1\ntrack 2\ntrack 3\ntrack 4\ntrack 5\ntrack 6\ntrack 7\ntrack 8\nfragment\nsample 8 clear 00\nsample 1 clear 6bc1bee22e409f96e93d7e117393172a6b\n",
     ] {
         let clear = parse_media(alloc, text)?;
-        for scheme in [Scheme::Cenc, Scheme::Cbcs] {
-            for lead in [0, 1, 65535] {
-                let plan = plan_of(scheme, lead);
-                let sealed = sealed_again(alloc, &clear, &plan)?;
-                assert_eq!(rt; sealed.tracks.as_slice(), clear.tracks.as_slice());
-                assert_eq!(rt; sealed.fragments.len(), clear.fragments.len());
-                for (c, s) in clear.fragments.as_slice().iter().zip(sealed.fragments.as_slice()) {
-                    assert!(rt; fragment_opens(alloc, &plan, c, s)?);
-                }
-            }
-        }
+        assert!(rt; leads_open(alloc, Scheme::Cenc, &clear)?);
+        assert!(rt; leads_open(alloc, Scheme::Cbcs, &clear)?);
     }
     Ok(())
 }
