@@ -1,5 +1,5 @@
 -- Where a part of a file stands, down through the boxes around it.
-use Rattle.std.proofs.Common.{◌≡◌, ℕ, ◌+◌, ◌-◌, ◌≤◌, ◌<◌, ◌^◌, List, [], ◌∷◌, ◌++◌, length, take, drop, refl, sym, ap, ◌∙◌, subst, arith, length-append}
+use Rattle.std.proofs.Common.{◌≡◌, ℕ, ◌+◌, ◌≤◌, ◌<◌, ◌^◌, List, ◌++◌, length, take, drop, refl, sym, ap, ◌∙◌, subst, arith, length-append}
 use Rattle.std.proofs.lemmas.List.{take_all, take-take, take_at, drop_at, drop-drop, drop-take}
 use Rattle.std.specs.Int.{w32, to_be_bytes}
 use Rattle.iso_boxes.specs.Writing.{boxed}
@@ -46,7 +46,6 @@ stands_at file place other bytes e s = let P : ℕ → Type 0 = λ p. Stands fil
 pub stands_body : (file : List ℕ) (place : ℕ) (kind body : List ℕ) → length kind ≡ 4 → Stands file place (boxed kind body) → Stands file (place + 8) body
 unfolding boxed
 stands_body file place kind body k4 s =
-    let head = to_be_bytes w32 (8 + length body) ++ kind in
     let size : length (to_be_bytes w32 (8 + length body) ++ kind) ≡ 8 = omega (arith, length-append (to_be_bytes w32 (8 + length body)) kind) in
     let e : place + length (to_be_bytes w32 (8 + length body) ++ kind) ≡ place + 8 = omega arith in
     stands_at file _ (place + 8) body e (stands_right file place (to_be_bytes w32 (8 + length body) ++ kind) body s)

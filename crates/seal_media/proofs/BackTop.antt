@@ -1,14 +1,12 @@
 -- The file of sealed media is read, box after box at the top level, as those media.
-use Rattle.std.proofs.Common.{◌≡◌, ◌⊎◌, inl, inr, ℕ, suc, ◌+◌, ◌-◌, ◌*◌, ◌/◌, ◌%◌, ◌^◌, ◌<◌, ◌≤◌, Bool, true, false, List, [], ◌∷◌, ◌++◌, length, take, map, codes, Option, Some, None, Result, Ok, Err, refl, sym, ap, subst, ◌∙◌, arith, append_assoc, append-nil, length-append}
+use Rattle.std.proofs.Common.{◌≡◌, inl, inr, ℕ, ◌+◌, ◌*◌, ◌/◌, ◌%◌, ◌^◌, ◌<◌, ◌≤◌, true, false, List, [], ◌∷◌, ◌++◌, length, take, map, codes, Some, Ok, refl, sym, ap, subst, ◌∙◌, arith, append_assoc, append-nil, length-append}
 use Rattle.std.specs.Prelude.{◌==◌, bytes_eq}
 use Rattle.std.specs.List.{All, sum_by, flat_map}
-use Rattle.std.specs.Int.{w32, to_be_bytes}
 use Rattle.std.proofs.lemmas.Bool.{ne_eqb}
 use Rattle.std.proofs.lemmas.Bool.Decides.{eqb_tells}
 use Rattle.std.proofs.lemmas.List.{length-map}
-use Rattle.std.proofs.lemmas.List.Concat.{length-flat_map}
 use Rattle.std.proofs.lemmas.List.Sums.{sum_by-cons, sum_by_push}
-use Rattle.std.proofs.lemmas.List.Elements.{All-nil, All-cons, All-head, All-tail, All-weaker}
+use Rattle.std.proofs.lemmas.List.Elements.{All-nil, All-cons, All-head, All-tail}
 use Rattle.eme_types.specs.declared.sample.EncSample.{EncSample}
 use Rattle.eme_types.specs.declared.sample.Iv.{Iv}
 use Rattle.eme_types.specs.declared.sample.Iv.TheVariants.{Eight, Sixteen}
@@ -21,7 +19,7 @@ use Rattle.eme_types.specs.declared.media.Fragment.{Fragment}
 use Rattle.eme_types.specs.declared.media.Media.{Media}
 use Rattle.eme_types.specs.declared.limits.TheConstants.{MAX_SAMPLES, MAX_SAMPLE_BYTES}
 use Rattle.eme_types.specs.Fed.{is_among, are_distinct, part_track, part_samples, part_bytes, sample_bytes, fragment_samples, fragment_bytes}
-use Rattle.iso_boxes.specs.Walk.{Found, walk}
+use Rattle.iso_boxes.specs.Walk.{walk}
 use Rattle.iso_boxes.specs.Writing.{boxed}
 use Rattle.iso_boxes.specs.Children.{all_knowing}
 use Rattle.prot_boxes.proofs.Again.{box_of, boxed_length}
@@ -32,19 +30,18 @@ use Rattle.track_media.specs.declared.top.KnownMovie.{KnownMovie}
 use Rattle.track_media.specs.declared.top.TopPart.{TopPart}
 use Rattle.track_media.specs.declared.top.TopPart.TheVariants as part
 use Rattle.track_media.specs.Refusals.{header_fault}
-use Rattle.track_media.specs.Mp4.{fragment_at, top_box, top_part_at, movie_in, fragments_in, room_behind, seen_from, with_first, media_of_parts, followed_by, mp4_media}
+use Rattle.track_media.specs.Mp4.{fragment_at, top_box, top_part_at, movie_in, fragments_in, room_behind, seen_from, with_first, followed_by, mp4_media}
 use Rattle.track_media.specs.File.{header, media_of}
-use Rattle.track_media.proofs.TopParts.{more_fragments, fragments_end}
+use Rattle.track_media.proofs.TopParts.{fragments_end}
 use Rattle.seal_media.specs.declared.plan.SealPlan.{SealPlan}
 use Rattle.seal_media.specs.Sealed.{init_of}
 use Rattle.seal_media.specs.Lengths.{entry_length, traf_length, moof_length}
-use Rattle.seal_media.specs.Layout.{own_iv, item_of, traf_body, traf_box, traf_boxes, moof_body, part_data, mdat_body, part_boxes, fragment_boxes, moov_body, sealed_file}
+use Rattle.seal_media.specs.Layout.{own_iv, item_of, traf_box, traf_boxes, moof_body, part_data, mdat_body, fragment_boxes, moov_body, sealed_file}
 use Rattle.seal_media.proofs.LengthLemmas.{traf_size}
-use Rattle.seal_media.proofs.BackStands.{Stands, stands_whole, stands_at, stands_left, stands_right, stands_body, stands_next}
+use Rattle.seal_media.proofs.BackStands.{Stands, stands_whole, stands_at, stands_left, stands_body, stands_next}
 use Rattle.seal_media.proofs.BackWalk.{reads_end, reads_on}
 use Rattle.seal_media.proofs.BackProtection.{known_read, kept_movie, movie_again, track_is_known, tracks_are, inits_again}
-use Rattle.seal_media.proofs.BackMovie.{movie_read}
-use Rattle.seal_media.proofs.BackFragment.{PartFits, part_sizes, part_items, part_body, moof_read, moof_again}
+use Rattle.seal_media.proofs.BackFragment.{PartFits, part_sizes, part_items, part_body, moof_again}
 use Rattle.seal_media.proofs.BackLaying.{data_length}
 use Rattle.seal_media.proofs.BackSamples.{SuitsScheme, HasPlan, said_item}
 use Rattle.seal_media.proofs.BackResolved.{PartHasPlan, fragment_resolved}
@@ -148,7 +145,6 @@ fragment_again : (plan : SealPlan) (file : List ℕ) (place : ℕ) (ids : List �
     → fragment_at file movie (room_behind before) (box_of (codes "moof") (moof_body plan.scheme f.parts) place) ≡ Ok (bare f)
 unfolding fragment_at
 fragment_again plan file place ids movie before f after small fits knows is stands samples bytes =
-    let offset = moof_length plan.scheme f.parts + 8 in
     let size = moof_size plan ids f.parts is.parts in
     let moof = stands_left file place (boxed (codes "moof") (moof_body plan.scheme f.parts)) (boxed (codes "mdat") (mdat_body f.parts) ++ after) stands in
     let rest = stands_next file place (codes "moof") (moof_body plan.scheme f.parts) (boxed (codes "mdat") (mdat_body f.parts) ++ after) refl stands in
@@ -187,17 +183,13 @@ fragments_again : (plan : SealPlan) (file : List ℕ) (place : ℕ) (ids : List 
 unfolding top_box
 fragments_again plan file place ids movie before [] small fits knows has all stands samples bytes = reads_end header_fault (λ known b. top_part_at file (seen_from known) b) followed_by before place true
 fragments_again plan file place ids movie before (f ∷ fs) small fits knows has all stands samples bytes =
-    let moof = boxed (codes "moof") (moof_body plan.scheme f.parts) in
-    let more = flat_map (fragment_boxes plan.scheme) fs in
     let flat : (boxed (codes "moof") (moof_body plan.scheme f.parts) ++ boxed (codes "mdat") (mdat_body f.parts)) ++ flat_map (fragment_boxes plan.scheme) fs
     ≡ boxed (codes "moof") (moof_body plan.scheme f.parts) ++ (boxed (codes "mdat") (mdat_body f.parts) ++ flat_map (fragment_boxes plan.scheme) fs) =
     append_assoc (boxed (codes "moof") (moof_body plan.scheme f.parts)) (boxed (codes "mdat") (mdat_body f.parts)) (flat_map (fragment_boxes plan.scheme) fs) in
     let P : List ℕ → Type 0 = λ xs. Stands file place xs in
     let whole : Stands file place (boxed (codes "moof") (moof_body plan.scheme f.parts) ++ (boxed (codes "mdat") (mdat_body f.parts) ++ flat_map (fragment_boxes plan.scheme) fs)) = subst P flat stands in
-    let at = place + (8 + length (moof_body plan.scheme f.parts)) in
     let rest = stands_next file place (codes "moof") (moof_body plan.scheme f.parts) (boxed (codes "mdat") (mdat_body f.parts) ++ flat_map (fragment_boxes plan.scheme) fs) refl whole in
     let others = stands_next file (place + (8 + length (moof_body plan.scheme f.parts))) (codes "mdat") (mdat_body f.parts) (flat_map (fragment_boxes plan.scheme) fs) refl rest in
-    let behind : List TopPart = (before ++ part.Fragment (bare f) ∷ []) ++ part.Other ∷ [] in
     let kept = movie_kept (before ++ part.Fragment (bare f) ∷ []) part.Other movie (movie_kept before (part.Fragment (bare f)) movie has) in
     let gained : fragments_in ((before ++ part.Fragment (bare f) ∷ []) ++ part.Other ∷ []) ≡ fragments_in before ++ bare f ∷ [] =
     fragments_end (before ++ part.Fragment (bare f) ∷ []) part.Other ∙ fragments_end before (part.Fragment (bare f)) in
@@ -250,14 +242,10 @@ pub reads_back : (plan : SealPlan) (m : Media) → length plan.kid ≡ 16 → le
     → HaveInits (init_of plan ∷ []) m.fragments → length (sealed_file plan m) ≤ 67108864 → media_of (sealed_file plan m) ≡ Ok m
 unfolding media_of mp4_media top_box
 reads_back plan m k i fits distinct few all samples bytes inits small =
-    let body = moov_body plan m.tracks in
-    let rest = flat_map (fragment_boxes plan.scheme) m.fragments in
-    let file = sealed_file plan m in
     let whole = stands_whole (sealed_file plan m) in
     let moov = stands_left (sealed_file plan m) 0 (boxed (codes "moov") (moov_body plan m.tracks)) (flat_map (fragment_boxes plan.scheme) m.fragments) whole in
     let others = stands_next (sealed_file plan m) 0 (codes "moov") (moov_body plan m.tracks) (flat_map (fragment_boxes plan.scheme) m.fragments) refl whole in
     let size : 8 + length (moov_body plan m.tracks) ≤ 67108864 = omega (arith, moov.to, boxed_length (codes "moov") (moov_body plan m.tracks) refl) in
-    let kept = kept_movie plan (sealed_file plan m) 0 m.tracks in
     let movie : top_part_at (sealed_file plan m) (seen_from []) (box_of (codes "moov") (moov_body plan m.tracks) 0) ≡ Ok (part.Movie (kept_movie plan (sealed_file plan m) 0 m.tracks)) =
     rw (movie_again plan (sealed_file plan m) 0 m.tracks (omega arith) k i fits distinct few moov) refl in
     let fragments = fragments_again plan (sealed_file plan m) (0 + (8 + length (moov_body plan m.tracks))) m.tracks (kept_movie plan (sealed_file plan m) 0 m.tracks) (part.Movie (kept_movie plan (sealed_file plan m) 0 m.tracks) ∷ []) m.fragments (omega arith) fits
