@@ -153,9 +153,12 @@ part_data p = flat_map (λ (s : EncSample). s.bytes) p.samples
 abbrev pub mdat_body : List TrackPart → List ℕ
 mdat_body parts = flat_map part_data parts
 
--- a fragment: its boxes, and its data
+-- the boxes of a fragment with these parts
+abbrev pub part_boxes : Scheme → List TrackPart → List ℕ
+part_boxes scheme parts = boxed (codes "moof") (moof_body scheme parts) ++ boxed (codes "mdat") (mdat_body parts)
+
 abbrev pub fragment_boxes : Scheme → Fragment → List ℕ
-fragment_boxes scheme f = boxed (codes "moof") (moof_body scheme f.parts) ++ boxed (codes "mdat") (mdat_body f.parts)
+fragment_boxes scheme f = part_boxes scheme f.parts
 
 -- ---- the file
 

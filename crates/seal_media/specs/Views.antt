@@ -1,10 +1,12 @@
 -- What the functions of this crate write of clear media, before they are sealed. It is no part of the public definition.
-use Rattle.std.specs.Prelude.{◌≡◌, ℕ, zero, suc, ◌+◌, ◌*◌, ◌/◌, ◌%◌, ◌<◌, ◌≤◌, List, [], ◌∷◌, ◌++◌, length, map, take, drop, slice_index, bit_xor, codes}
+use Rattle.std.specs.Prelude.{◌≡◌, ℕ, zero, suc, ◌+◌, ◌*◌, ◌/◌, ◌%◌, ◌<◌, ◌≤◌, List, [], ◌∷◌, ◌++◌, length, map, flat_map, take, drop, slice_index, bit_xor, codes}
 use Rattle.eme_types.specs.declared.sample.EncSample.{EncSample}
 use Rattle.eme_types.specs.declared.sample.Iv.{Iv}
 use Rattle.eme_types.specs.declared.sample.Scheme.{Scheme}
 use Rattle.eme_types.specs.declared.sample.Scheme.TheVariants.{Cenc, Cbcs}
 use Rattle.eme_types.specs.declared.media.TrackPart.{TrackPart}
+use Rattle.eme_types.specs.declared.media.Fragment.{Fragment}
+use Rattle.eme_types.specs.declared.media.InitData.{InitData}
 use Rattle.eme_types.specs.Fed.{sample_bytes, part_samples, part_bytes}
 use Rattle.aes128.specs.Cipher.{cipher}
 use Rattle.ctr_cbc.specs.Blocks.{exclusive_or}
@@ -13,8 +15,8 @@ use Rattle.sample_crypt.specs.Decryption.{iv_bytes}
 use Rattle.iso_boxes.specs.Writing.{boxed}
 use Rattle.prot_boxes.specs.declared.senc.SencItem.{SencItem}
 use Rattle.seal_media.specs.declared.plan.SealPlan.{SealPlan}
-use Rattle.seal_media.specs.Sealed.{iv_of, pair_of}
-use Rattle.seal_media.specs.Layout.{own_iv, traf_body}
+use Rattle.seal_media.specs.Sealed.{iv_of, pair_of, IsSealed, AreSealed, AreSealedParts, AreSealedFragments}
+use Rattle.seal_media.specs.Layout.{own_iv, traf_body, mdat_body, part_boxes, fragment_boxes}
 
 -- what the senc will say of the sample of a number and a size
 abbrev pub item_at : SealPlan → ℕ → ℕ → SencItem
@@ -59,3 +61,35 @@ pub record AreStreamed (key iv was now : List ℕ) : Type 0 where
 abbrev pub IsPartSealed : Scheme → List ℕ → Iv → List ℕ → List ℕ → Type 0
 IsPartSealed Cenc key iv was now = AreStreamed key (iv_bytes iv) was now
 IsPartSealed Cbcs key iv was now = AreTenthsSealed key (iv_bytes iv) was now
+
+-- ---- what is appended to the file
+
+-- a sample, sealed
+pub record HasSample (plan : SealPlan) (number : ℕ) (clear : EncSample) (old new : List ℕ) : Type 0 where
+  pub sealed : EncSample
+  pub is : IsSealed plan number clear sealed
+  pub behind : new ≡ old ++ sealed.bytes
+
+-- samples, sealed
+pub record HasSamples (plan : SealPlan) (number : ℕ) (clear : List EncSample) (old new : List ℕ) : Type 0 where
+  pub sealed : List EncSample
+  pub are : AreSealed plan number clear sealed
+  pub behind : new ≡ old ++ flat_map (λ (s : EncSample). s.bytes) sealed
+
+-- the samples of parts, sealed
+pub record HasParts (plan : SealPlan) (number : ℕ) (clear : List TrackPart) (old new : List ℕ) : Type 0 where
+  pub sealed : List TrackPart
+  pub are : AreSealedParts plan number clear sealed
+  pub behind : new ≡ old ++ mdat_body sealed
+
+-- the boxes of a fragment, sealed
+pub record HasFragment (plan : SealPlan) (number : ℕ) (clear : Fragment) (old new : List ℕ) : Type 0 where
+  pub sealed : List TrackPart
+  pub are : AreSealedParts plan number clear.parts sealed
+  pub behind : new ≡ old ++ part_boxes plan.scheme sealed
+
+-- the boxes of fragments, sealed
+pub record HasFragments (plan : SealPlan) (number : ℕ) (given : List InitData) (clear : List Fragment) (old new : List ℕ) : Type 0 where
+  pub sealed : List Fragment
+  pub are : AreSealedFragments plan number given clear sealed
+  pub behind : new ≡ old ++ flat_map (fragment_boxes plan.scheme) sealed

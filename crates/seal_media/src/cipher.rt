@@ -1,6 +1,7 @@
 // The bytes of a sample, sealed in place.
 ghost use Rattle.std.specs.Prelude.{◌≡◌, ℕ, List, ◌++◌, length, replicate, Some};
 ghost use Rattle.eme_types.specs.declared.sample.Scheme.{Scheme};
+ghost use Rattle.aes128.specs.Bytes.{AreBytes};
 ghost use Rattle.ctr_cbc.specs.KeyStream.{stream_byte};
 ghost use Rattle.sample_crypt.specs.Decryption.{iv_bytes, decryption_of};
 ghost use Rattle.seal_media.specs.Sealed.{iv_of, sealed_protect};
@@ -11,6 +12,11 @@ use crate::plan::SealPlan;
 use aes128::{RoundKeys, inverse_law};
 use ctr_cbc::{cbc_encrypt, ctr_apply, short_iv_law};
 use eme_types::Scheme;
+
+// What is listed here are bytes.
+fn are_bytes(bytes: &[u8])
+    ensures { AreBytes bytes.now }
+{}
 
 // An IV of 8 bytes with a block number of 0 behind it (ISO/IEC 23001-7 section 9.3).
 fn padded(iv: [u8; 8]) -> [u8; 16]
@@ -59,6 +65,10 @@ pub(crate) fn seal_bytes(plan: &SealPlan, keys: &RoundKeys, number: u64, bytes: 
     ensures opens { decryption_of plan.now.key.bytes (Some (sealed_protect plan.now number (length bytes.old))) bytes.new ≡ bytes.old }
 {
     inverse_law();
+    are_bytes(&plan.key.bytes);
+    are_bytes(&plan.iv);
+    are_bytes(bytes);
     let clear = usize::from(plan.lead).min(bytes.len());
     seal_part(plan, keys, number, &mut bytes[clear..]);
+    are_bytes(bytes);
 }
