@@ -1,20 +1,22 @@
 -- What the end of a command says, from what its steps say.
-use Rattle.std.proofs.Common.{◌≡◌, ◌+◌, inl, inr, ℕ, List, [], ◌∷◌, ◌++◌, length, refl, sym, subst, ap, ◌∙◌}
+use Rattle.std.proofs.Common.{◌≡◌, ◌⊎◌, ◌+◌, inl, inr, ℕ, List, [], ◌∷◌, ◌++◌, length, refl, sym, subst, ap, ◌∙◌, arith, append-nil}
 use Rattle.std.specs.Prelude.{IsTrue, OnOk, OnErr, Result, Ok, Err}
 use Rattle.eme_types.specs.declared.media.Media.{Media}
 use Rattle.eme_edge.specs.Shelf.{ShelfState, Rose, SaidPart}
 use Rattle.eme_edge.specs.declared.shelf.ShelfFault.{ShelfFault}
 use Rattle.eme_edge.specs.declared.shelf.ShelfFault.TheVariants.{Failed, OutOfMemory as NoMemory}
 use Rattle.script_lang.specs.declared.script.Line.{Line}
-use Rattle.player_cli.specs.Command.{Names, Query, Asked, Play, Tell}
+use Rattle.player_cli.specs.Command.{Names, Query, Asked, Play, Seal, SealNames, Tell}
 use Rattle.player_cli.specs.Ends.{writing_end}
 use Rattle.player_cli.specs.FileText.{FileText}
+use Rattle.player_cli.specs.Files.{HaveDistinctNames}
 use Rattle.player_cli.specs.Inputs.{Input, ScriptRead, MediaRead, MediaEnds, Unread}
 use Rattle.player_cli.specs.Played.{ArePlayed, IsPlay}
 use Rattle.player_cli.specs.ReadAll.{LeavesShelf}
 use Rattle.player_cli.specs.Says.{HasDone, HasStopped, EndSays}
+use Rattle.player_cli.specs.Sealed.{IsSealing, sealed_files}
 use Rattle.player_cli.specs.Told.{inputs_of, IsText}
-use Rattle.player_cli.specs.Written.{WritesCause, IsWritten, IsStopped, KeepsOthers}
+use Rattle.player_cli.specs.Written.{WritesCause, FilesSoFar, StopsAtStart, StopsInText, IsWritten, IsStopped, KeepsOthers}
 use Rattle.player_cli.specs.declared.end.End.TheVariants.{Refused}
 use Rattle.player_cli.specs.declared.end.MediaEnd.{MediaEnd}
 use Rattle.player_cli.specs.declared.end.Refusal.TheVariants.{Media as NoMedia}
@@ -65,6 +67,28 @@ text_ends old mid new query text r kept is unread ok err cause =
     (λ w. record { text = text; is = is; said = w; unread = since })
     (λ s. record { text = text; is = is; said = s; unread = since })
     r ok err cause
+
+-- ---- the sealed file
+
+pub distinct_one : (file : FileText) → HaveDistinctNames (file ∷ [])
+distinct_one file i j before within = absurd (omega (arith, before, within))
+
+all_written : (old new : ShelfState) (files : List FileText) → FilesSoFar old new files (length files) → IsWritten old new files []
+all_written old new files w = record { texts = w.texts; others = w.others; said = λ _. w.said ∙ sym (append-nil old.said); tells = w.tells }
+
+pub seal_ends : (old mid new : ShelfState) (names : SealNames) (bytes : List ℕ) (r : Result Unit ShelfFault) → LeavesShelf old mid → IsSealing old names bytes
+    → OnOk r (FilesSoFar mid new (sealed_files names bytes) 1) → OnErr r (StopsAtStart mid new (sealed_files names bytes) ⊎ StopsInText mid new (sealed_files names bytes))
+    → WritesCause mid new r → EndSays (writing_end r) (Seal names) old new
+seal_ends old mid new names bytes (Ok done) kept is ok err cause =
+    writing_says old mid new kept (sealed_files names bytes) [] (Seal names)
+    (λ w. record { bytes = bytes; is = is; written = w })
+    (λ s. record { bytes = bytes; is = is; stopped = s })
+    (Ok done) (all_written mid new (sealed_files names bytes) ok) tt cause
+seal_ends old mid new names bytes (Err fault) kept is ok err cause =
+    writing_says old mid new kept (sealed_files names bytes) [] (Seal names)
+    (λ w. record { bytes = bytes; is = is; written = w })
+    (λ s. record { bytes = bytes; is = is; stopped = s })
+    (Err fault) tt (inl err) cause
 
 -- a play: the script and then the media are read, and the texts of the play are written
 module _ (old mid last : ShelfState) (names : Names) (first : LeavesShelf old mid) where

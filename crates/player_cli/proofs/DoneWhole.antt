@@ -6,10 +6,12 @@ use Rattle.eme_edge.specs.declared.shelf.ShelfFault.TheVariants.{Failed, OutOfMe
 use Rattle.script_lang.specs.Grammar.{script_of}
 use Rattle.track_media.specs.declared.kind.MediaFault.TheVariants.{Refused as BadMedia}
 use Rattle.track_media.specs.File.{media_of}
-use Rattle.player_cli.specs.Command.{Asked}
+use Rattle.seal_media.specs.declared.fault.SealFault.{SealFault}
+use Rattle.seal_media.specs.Refusals.{refusal}
+use Rattle.player_cli.specs.Command.{Asked, SealNames}
 use Rattle.license_desk.specs.Table.{desk_of}
 use Rattle.player_cli.specs.Ends.{read_outcome, script_outcome, media_outcome, desk_outcome, refusal_outcome, outcome_of}
-use Rattle.player_cli.specs.Inputs.{Tells, Input, ScriptFile, MediaFile, DeskFile, RequestFile, ScriptEnds, MediaEnds, DeskEnds, InputEnds, FirstEnds, HasFile, HasScript, HasMedia, HasDesk, HasInput, HasInputs}
+use Rattle.player_cli.specs.Inputs.{Tells, Input, ScriptFile, MediaFile, DeskFile, RequestFile, ClearFile, seal_refusal, SealFails, ScriptEnds, MediaEnds, DeskEnds, InputEnds, FirstEnds, HasFile, HasScript, HasMedia, HasDesk, HasClear, HasInput, HasInputs}
 use Rattle.player_cli.specs.ReadAll.{ReadEnds}
 use Rattle.player_cli.specs.Says.{done_of, all_inputs, EndSays, SaysOf, NoFault, IsDoneWhole}
 use Rattle.player_cli.specs.declared.end.ScriptEnd.{ScriptEnd}
@@ -66,21 +68,33 @@ module _ (s new : ShelfState) (calm : NoFault s new) where
       let refused : desk_of has.file.bytes ≡ Err (line, rule) = ap desk_of (sym same) ∙ says.refused in
       absurd (cc (sym refused ∙ has.fits))
 
-  is_taken : (input : Input) → HasInput s input → (refusal : Refusal) → InputEnds input refusal s new → refusal_outcome refusal ≡ OutOfMemory
-  is_taken (ScriptFile name) has refusal says = ap refusal_outcome says.1 ∙ script_is_taken name has says.0 says.2
-  is_taken (MediaFile name) has refusal says = ap refusal_outcome says.1 ∙ media_is_taken name has says.0 says.2
-  is_taken (DeskFile name) has refusal says = ap refusal_outcome says.1 ∙ desk_is_taken name has says.0 says.2
-  is_taken (RequestFile name) has refusal says = ap refusal_outcome says.1 ∙ is_read name _ _ has says.0 says.2
+  -- media that may be sealed are
+  clear_is_taken : (names : SealNames) → HasClear s names → (fault : SealFault) → SealFails s names fault → refusal_outcome (seal_refusal fault) ≡ OutOfMemory
+  clear_is_taken names has fault says =
+      let same = same_bytes names.media _ has.has.file says.read.bytes says.read.told in
+      let one : Ok says.media ≡ Ok has.has.media = sym says.read.fits ∙ (ap media_of same ∙ has.has.fits) in
+      elim says.refused [
+        | inl short ↦ ap (λ (f : SealFault). refusal_outcome (seal_refusal f)) short
+        | inr broken ↦ (let media : says.media ≡ has.has.media = cc one in let none = sym broken ∙ (ap (refusal names.plan) media ∙ has.allowed) in absurd (cc none))
+      ]
+
+  is_taken : (input : Input) → HasInput s input → (end : Refusal) → InputEnds input end s new → refusal_outcome end ≡ OutOfMemory
+  is_taken (ScriptFile name) has end says = ap refusal_outcome says.1 ∙ script_is_taken name has says.0 says.2
+  is_taken (MediaFile name) has end says = ap refusal_outcome says.1 ∙ media_is_taken name has says.0 says.2
+  is_taken (DeskFile name) has end says = ap refusal_outcome says.1 ∙ desk_is_taken name has says.0 says.2
+  is_taken (RequestFile name) has end says = ap refusal_outcome says.1 ∙ is_read name _ _ has says.0 says.2
+  is_taken (ClearFile names) has end (inl says) = ap refusal_outcome says.1 ∙ media_is_taken names.media has.has says.0 says.2
+  is_taken (ClearFile names) has end (inr says) = ap refusal_outcome says.1 ∙ clear_is_taken names has says.0 says.2
 
   -- all files are taken
-  are_taken : (inputs : List Input) → HasInputs s inputs → (refusal : Refusal) → FirstEnds inputs refusal s new → refusal_outcome refusal ≡ OutOfMemory
-  are_taken [] has refusal says = ap refusal_outcome says
-  are_taken (input ∷ more) has refusal (inl ends) = is_taken input has.0 refusal ends
-  are_taken (input ∷ more) has refusal (inr later) = are_taken more has.1 refusal later.1
+  are_taken : (inputs : List Input) → HasInputs s inputs → (end : Refusal) → FirstEnds inputs end s new → refusal_outcome end ≡ OutOfMemory
+  are_taken [] has end says = ap refusal_outcome says
+  are_taken (input ∷ more) has end (inl ends) = is_taken input has.0 end ends
+  are_taken (input ∷ more) has end (inr later) = are_taken more has.1 end later.1
 
   ends_whole : (asked : Asked) → HasInputs s (all_inputs asked) → (end : End) → EndSays end asked s new → (outcome_of (done_of asked) end ≡ done_of asked) ⊎ (outcome_of (done_of asked) end ≡ OutOfMemory)
   ends_whole asked has Whole says = inl refl
-  ends_whole asked has (Refused refusal) says = inr (are_taken (all_inputs asked) has refusal says.0)
+  ends_whole asked has (Refused end) says = inr (are_taken (all_inputs asked) has end says.0)
   ends_whole asked has (Stopped Failed) says = absurd (calm.writes says.0)
   ends_whole asked has (Stopped NoMemory) says = inr refl
 

@@ -1,5 +1,5 @@
 -- The words of the command line.
-use Rattle.std.specs.Prelude.{ℕ, ◌-◌, ◌^◌, ◌≡◌, ◌&&◌, ◌||◌, Bool, false, not, if◌then◌else◌, List, [], ◌∷◌, codes, Option, IsSome, Some, None, unwrap_or, option_and_then, Result, Ok, Err}
+use Rattle.std.specs.Prelude.{ℕ, ◌-◌, ◌^◌, ◌≡◌, ◌&&◌, ◌||◌, Bool, false, not, if◌then◌else◌, List, [], ◌∷◌, codes, Option, IsSome, Some, None, unwrap_or, option_and_then, Result, Ok, Err, result_ok}
 use Rattle.std.specs.Char.{is_ascii_digit}
 use Rattle.std.specs.List.{list_all}
 use Rattle.std.specs.Str.{bytes_eq}
@@ -17,6 +17,12 @@ use Rattle.player_cli.specs.declared.quiet.QuietWords.{QuietWords}
 use Rattle.player_cli.specs.declared.quiet.QuietWords.TheVariants.{Inspect as ToInspect, Request as ToRequest, Demo as ToDemo, Desk as ToDesk}
 use Rattle.eme_types.specs.declared.media.InitKind.{InitKind}
 use Rattle.eme_types.specs.declared.media.InitKind.TheVariants.{Cenc, Keyids}
+use Rattle.eme_types.specs.declared.kid.KeyBytes.{KeyBytes}
+use Rattle.eme_types.specs.declared.sample.Scheme.{Scheme}
+use Rattle.eme_types.specs.declared.sample.Scheme.TheVariants.{Cenc as CencScheme, Cbcs as CbcsScheme}
+use Rattle.hex.specs.Hex.{decode_sized}
+use Rattle.seal_media.specs.declared.plan.SealPlan.{SealPlan}
+use Rattle.player_cli.specs.declared.seal_words.SealWords.{SealWords}
 
 -- the files that a play reads, the prefix of those that it writes, and its number of workers
 pub record Names : Type 0 where
@@ -30,6 +36,12 @@ pub record DeskNames : Type 0 where
   pub table : List ℕ
   pub request : List ℕ
   pub moment : ℕ
+
+-- the media that are sealed, how, and the file that is written
+pub record SealNames : Type 0 where
+  pub media : List ℕ
+  pub plan : SealPlan
+  pub out : List ℕ
 
 -- what is asked of a command that says a text: one case for each
 pub data Query : Type 0 where
@@ -45,6 +57,7 @@ pub data Query : Type 0 where
 -- what the words ask for
 pub data Asked : Type 0 where
   Play : Names → Asked
+  Seal : SealNames → Asked
   Tell : Query → Asked
 
 -- ---- the command `play`
@@ -201,17 +214,104 @@ abbrev pub desk_words : List (List ℕ) → Result Asked UsageFault
 desk_words [] = Err (bad_word 2 MissingWord)
 desk_words (table ∷ more) = if is_nothing table then Err (bad_word 2 EmptyName) else desk_request table more
 
+-- ---- the command `seal`
+
+-- the protection scheme that a word names (ISO/IEC 23001-7 section 10)
+abbrev pub scheme_of : List ℕ → Option Scheme
+scheme_of word = if bytes_eq word (codes "cenc") then Some CencScheme else (if bytes_eq word (codes "cbcs") then Some CbcsScheme else None)
+
+-- the 16 bytes of a hexadecimal word
+unfoldable pub sixteen_bytes : List ℕ → Option (List ℕ)
+sixteen_bytes word = result_ok (decode_sized word 16)
+
+-- no word stands behind the name of the output
+abbrev pub seal_over : SealNames → List (List ℕ) → Result Asked UsageFault
+seal_over names [] = Ok (Seal names)
+seal_over names (word ∷ more) = Err (bad_word 9 ExtraWord)
+
+-- the words behind the lead
+abbrev pub seal_out : List ℕ → SealPlan → List (List ℕ) → Result Asked UsageFault
+seal_out media plan [] = Err (bad_word 8 MissingWord)
+seal_out media plan (out ∷ more) =
+    if is_nothing out then Err (bad_word 8 EmptyName)
+    else if bytes_eq out media then Err (bad_word 8 NameClash)
+    else seal_over (record { media = media; plan = plan; out = out }) more
+
+-- the words behind the word of the lead, which is 0 to 65,535
+abbrev pub seal_with_lead : List ℕ → SealPlan → Option ℕ → List (List ℕ) → Result Asked UsageFault
+seal_with_lead media plan None more = Err (bad_word 7 BadNumber)
+seal_with_lead media plan (Some lead) more = seal_out media (record plan { lead = lead }) more
+
+-- the words behind the IV
+abbrev pub seal_lead : List ℕ → SealPlan → List (List ℕ) → Result Asked UsageFault
+seal_lead media plan [] = Err (bad_word 7 MissingWord)
+seal_lead media plan (word ∷ more) = seal_with_lead media plan (number_up_to 65535 word) more
+
+-- all of a plan but its lead
+abbrev pub plan_with : Scheme → List ℕ → KeyBytes → List ℕ → SealPlan
+plan_with scheme kid key iv = record { scheme = scheme; kid = kid; key = key; iv = iv; lead = 0 }
+
+-- the words behind the word of the IV
+abbrev pub seal_with_iv : List ℕ → Scheme → List ℕ → KeyBytes → Option (List ℕ) → List (List ℕ) → Result Asked UsageFault
+seal_with_iv media scheme kid key None more = Err (bad_word 6 BadHex)
+seal_with_iv media scheme kid key (Some iv) more = seal_lead media (plan_with scheme kid key iv) more
+
+-- the words behind the key
+abbrev pub seal_iv : List ℕ → Scheme → List ℕ → KeyBytes → List (List ℕ) → Result Asked UsageFault
+seal_iv media scheme kid key [] = Err (bad_word 6 MissingWord)
+seal_iv media scheme kid key (word ∷ more) = seal_with_iv media scheme kid key (sixteen_bytes word) more
+
+-- the words behind the word of the key
+abbrev pub seal_with_key : List ℕ → Scheme → List ℕ → Option (List ℕ) → List (List ℕ) → Result Asked UsageFault
+seal_with_key media scheme kid None more = Err (bad_word 5 BadHex)
+seal_with_key media scheme kid (Some key) more = seal_iv media scheme kid (record { bytes = key }) more
+
+-- the words behind the key id
+abbrev pub seal_key : List ℕ → Scheme → List ℕ → List (List ℕ) → Result Asked UsageFault
+seal_key media scheme kid [] = Err (bad_word 5 MissingWord)
+seal_key media scheme kid (word ∷ more) = seal_with_key media scheme kid (sixteen_bytes word) more
+
+-- the words behind the word of the key id
+abbrev pub seal_with_kid : List ℕ → Scheme → Option (List ℕ) → List (List ℕ) → Result Asked UsageFault
+seal_with_kid media scheme None more = Err (bad_word 4 BadHex)
+seal_with_kid media scheme (Some kid) more = seal_key media scheme kid more
+
+-- the words behind the scheme
+abbrev pub seal_kid : List ℕ → Scheme → List (List ℕ) → Result Asked UsageFault
+seal_kid media scheme [] = Err (bad_word 4 MissingWord)
+seal_kid media scheme (word ∷ more) = seal_with_kid media scheme (sixteen_bytes word) more
+
+-- the words behind the word of the scheme
+abbrev pub seal_with_scheme : List ℕ → Option Scheme → List (List ℕ) → Result Asked UsageFault
+seal_with_scheme media None more = Err (bad_word 3 BadKind)
+seal_with_scheme media (Some scheme) more = seal_kid media scheme more
+
+-- the words behind the name of the media
+abbrev pub seal_scheme : List ℕ → List (List ℕ) → Result Asked UsageFault
+seal_scheme media [] = Err (bad_word 3 MissingWord)
+seal_scheme media (word ∷ more) = seal_with_scheme media (scheme_of word) more
+
+-- the words behind `seal`
+abbrev pub seal_words : List (List ℕ) → Result Asked UsageFault
+seal_words [] = Err (bad_word 2 MissingWord)
+seal_words (media ∷ more) = if is_nothing media then Err (bad_word 2 EmptyName) else seal_scheme media more
+
 -- ---- all commands
 
--- what the words of a command that plays no files ask for, or the first bad word
-unfoldable pub quiet_command : List (List ℕ) → Result Asked UsageFault
-quiet_command [] = Err (bad_word 1 MissingCommand)
-quiet_command (word ∷ more) =
+-- what the words of a command that says a text ask for, or the first bad word
+unfoldable pub told_command : List (List ℕ) → Result Asked UsageFault
+told_command [] = Err (bad_word 1 MissingCommand)
+told_command (word ∷ more) =
     if bytes_eq word (codes "inspect") then inspect_words more
     else if bytes_eq word (codes "request") then request_words more
     else if bytes_eq word (codes "demo") then demo_words more
     else if bytes_eq word (codes "desk") then desk_words more
     else Err (bad_word 1 UnknownCommand)
+
+-- what the words of a command that plays no files ask for, or the first bad word
+unfoldable pub quiet_command : List (List ℕ) → Result Asked UsageFault
+quiet_command [] = Err (bad_word 1 MissingCommand)
+quiet_command (word ∷ more) = if bytes_eq word (codes "seal") then seal_words more else told_command (word ∷ more)
 
 -- what the words ask for, or the first bad word
 unfoldable pub command : List (List ℕ) → Result Asked UsageFault
@@ -231,6 +331,14 @@ IsAsked asked w = asked ≡ Ok (Play (names_of w))
 -- the bytes of a hexadecimal word, or none
 abbrev pub data_of : List ℕ → List ℕ
 data_of word = unwrap_or (hex_bytes word) []
+
+-- the names and the plan that the words of `seal` give
+abbrev pub seal_names : SealWords → SealNames
+seal_names w = record { media = w.media.now; plan = w.plan; out = w.out.now }
+
+-- the words ask for this sealing
+abbrev pub IsSeal : Result Asked UsageFault → SealWords → Type 0
+IsSeal asked w = asked ≡ Ok (Seal (seal_names w))
 
 -- the names and the moment that the words of a desk give
 abbrev pub desk_names : DeskWords → DeskNames
@@ -255,7 +363,7 @@ pub record IsRequested (asked : Result Asked UsageFault) (w : RequestWords) : Ty
   pub is_data : IsSome (hex_bytes w.hex.now)
   pub is : asked ≡ Ok (Tell (Request w.kind (data_of w.hex.now)))
 
--- they ask for what the words of a command say that plays no files
+-- they ask for what the words of a command say that says a text
 pub record IsQuiet (asked : Result Asked UsageFault) (w : QuietWords) : Type 0 where
   pub is_data : HasData w
   pub is : asked ≡ Ok (Tell (query_of w))

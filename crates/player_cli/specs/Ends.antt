@@ -5,7 +5,7 @@ use Rattle.license_desk.specs.declared.limits.TheConstants.{MAX_DESK_BYTES, MAX_
 use Rattle.eme_edge.specs.declared.shelf.ShelfFault.{ShelfFault}
 use Rattle.eme_edge.specs.declared.shelf.ShelfFault.TheVariants.{Failed, OutOfMemory as NoMemory}
 use Rattle.player_cli.specs.declared.outcome.Outcome.{Outcome}
-use Rattle.player_cli.specs.declared.outcome.Outcome.TheVariants.{ScriptRefused, MediaRefused, DeskRefused, TooLarge, ReadFault, WriteFault, OutOfMemory}
+use Rattle.player_cli.specs.declared.outcome.Outcome.TheVariants.{ScriptRefused, MediaRefused, DeskRefused, SealRefused, TooLarge, ReadFault, WriteFault, OutOfMemory}
 use Rattle.player_cli.specs.declared.outcome.Which.{Which}
 use Rattle.player_cli.specs.declared.outcome.Which.TheVariants.{Script as ScriptFile, Media as MediaFile, Desk as DeskFile, Request as RequestFile}
 use Rattle.player_cli.specs.declared.read.ReadEnd.{ReadEnd}
@@ -48,6 +48,7 @@ refusal_outcome (refused.Script end) = script_outcome end
 refusal_outcome (refused.Media end) = media_outcome end
 refusal_outcome (refused.Desk end) = desk_outcome end
 refusal_outcome (refused.Request end) = read_outcome RequestFile MAX_REQUEST_BYTES end
+refusal_outcome (refused.Seal rule) = SealRefused rule
 refusal_outcome refused.OutOfMemory = OutOfMemory
 
 -- the answer of a command whose good end is this

@@ -10,10 +10,12 @@ use Rattle.license_desk.specs.declared.fault.DeskKind.TheVariants as desk
 use Rattle.eme_edge.specs.declared.words.UsageKind.{UsageKind}
 use Rattle.eme_edge.specs.declared.words.UsageKind.TheVariants.{MissingCommand, UnknownCommand, MissingWord, ExtraWord, BadNumber, BadKind, BadHex, EmptyName, NameClash}
 use Rattle.eme_edge.specs.declared.words.UsageFault.{UsageFault}
+use Rattle.player_cli.specs.declared.outcome.SealKind.{SealKind}
+use Rattle.player_cli.specs.declared.outcome.SealKind.TheVariants as seal
 use Rattle.player_cli.specs.declared.outcome.Which.{Which}
 use Rattle.player_cli.specs.declared.outcome.Which.TheVariants.{Script, Media, Desk, Request}
 use Rattle.player_cli.specs.declared.outcome.Outcome.{Outcome}
-use Rattle.player_cli.specs.declared.outcome.Outcome.TheVariants.{Played, Done, Usage, ScriptRefused, MediaRefused, TooLarge, ReadFault, WriteFault, OutOfMemory, DeskRefused}
+use Rattle.player_cli.specs.declared.outcome.Outcome.TheVariants.{Played, Done, Usage, ScriptRefused, MediaRefused, TooLarge, ReadFault, WriteFault, OutOfMemory, DeskRefused, SealRefused}
 
 -- the exit status of each outcome
 abbrev pub status_of : Outcome → ℕ
@@ -26,6 +28,7 @@ status_of (TooLarge which limit) = 5
 status_of ReadFault = 6
 status_of WriteFault = 7
 status_of OutOfMemory = 8
+status_of (SealRefused rule) = 9
 status_of (DeskRefused line rule) = 10
 
 -- the name of what is wrong with a word
@@ -103,6 +106,12 @@ desk_name desk.Key = codes "Key"
 desk_name desk.Number = codes "Number"
 desk_name desk.DuplicateKid = codes "DuplicateKid"
 
+-- the name of what keeps media from being sealed
+abbrev pub seal_name : SealKind → List ℕ
+seal_name seal.HasInit = codes "HasInit"
+seal_name seal.Protected = codes "Protected"
+seal_name seal.TooLarge = codes "TooLarge"
+
 -- the line of a bad word
 abbrev pub usage_text : UsageFault → List ℕ
 usage_text fault = codes "usage: word " ++ (decimal fault.place ++ (codes ": " ++ (usage_name fault.kind ++ codes "\n")))
@@ -126,3 +135,4 @@ text_of ReadFault = codes "read fault\n"
 text_of WriteFault = codes "write fault\n"
 text_of OutOfMemory = codes "out of memory\n"
 text_of (DeskRefused line rule) = codes "desk: line " ++ (decimal line ++ (codes ": " ++ (desk_name rule ++ codes "\n")))
+text_of (SealRefused rule) = codes "seal: " ++ (seal_name rule ++ codes "\n")

@@ -1,5 +1,5 @@
 -- The files that a command reads: scripts, media, tables of keys and licence requests.
-use Rattle.std.specs.Prelude.{ℕ, ◌≡◌, ◌≤◌, ◌⊎◌, List, [], ◌∷◌, length, IsTrue, Some, Ok, Err}
+use Rattle.std.specs.Prelude.{ℕ, ◌≡◌, ◌≤◌, ◌⊎◌, List, [], ◌∷◌, length, IsTrue, Some, None, Ok, Err}
 use Rattle.eme_types.specs.declared.limits.TheConstants.{MAX_SCRIPT_BYTES, MAX_MEDIA_BYTES}
 use Rattle.license_desk.specs.declared.limits.TheConstants.{MAX_DESK_BYTES, MAX_REQUEST_BYTES}
 use Rattle.license_desk.specs.declared.fault.DeskKind.{DeskKind}
@@ -13,7 +13,14 @@ use Rattle.script_lang.specs.Grammar.{script_of}
 use Rattle.track_media.specs.declared.kind.MediaKind.{MediaKind}
 use Rattle.track_media.specs.declared.kind.MediaFault.TheVariants.{Refused}
 use Rattle.track_media.specs.File.{media_of}
+use Rattle.seal_media.specs.declared.fault.SealFault.{SealFault}
+use Rattle.seal_media.specs.declared.fault.SealFault.TheVariants as unsealed
+use Rattle.seal_media.specs.Refusals.{refusal}
+use Rattle.seal_media.specs.Answers.{IsRefused}
+use Rattle.player_cli.specs.Command.{SealNames}
 use Rattle.player_cli.specs.ReadAll.{ReadEnds}
+use Rattle.player_cli.specs.declared.outcome.SealKind.{SealKind}
+use Rattle.player_cli.specs.declared.outcome.SealKind.TheVariants as seal
 use Rattle.player_cli.specs.declared.end.ScriptEnd.{ScriptEnd}
 use Rattle.player_cli.specs.declared.end.ScriptEnd.TheVariants as script_end
 use Rattle.player_cli.specs.declared.end.MediaEnd.{MediaEnd}
@@ -22,7 +29,7 @@ use Rattle.player_cli.specs.declared.end.DeskEnd.{DeskEnd}
 use Rattle.player_cli.specs.declared.end.DeskEnd.TheVariants as desk_end
 use Rattle.player_cli.specs.declared.read.ReadEnd.{ReadEnd}
 use Rattle.player_cli.specs.declared.end.Refusal.{Refusal}
-use Rattle.player_cli.specs.declared.end.Refusal.TheVariants.{Script as NoScript, Media as NoMedia, Desk as NoDesk, Request as NoRequest, OutOfMemory}
+use Rattle.player_cli.specs.declared.end.Refusal.TheVariants.{Script as NoScript, Media as NoMedia, Desk as NoDesk, Request as NoRequest, Seal as NotSealed, OutOfMemory}
 
 -- the file of that name, where the shelf tells it, has these bytes
 abbrev pub Tells : ShelfState → List ℕ → List ℕ → Type 0
@@ -95,6 +102,25 @@ pub record ReadsRequest (old : ShelfState) (name : List ℕ) : Type 0 where
   pub bytes : List ℕ
   pub read : RequestRead old name bytes
 
+-- the file was read and is media that may be sealed
+pub record ReadsClear (old : ShelfState) (names : SealNames) : Type 0 where
+  pub media : Media
+  pub read : MediaRead old names.media media
+  pub allowed : refusal names.plan media ≡ None
+
+-- how the command ends where media are not sealed
+abbrev pub seal_refusal : SealFault → Refusal
+seal_refusal (unsealed.HasInit fragment) = NotSealed seal.HasInit
+seal_refusal (unsealed.Protected fragment track) = NotSealed seal.Protected
+seal_refusal unsealed.TooLarge = NotSealed seal.TooLarge
+seal_refusal unsealed.OutOfMemory = OutOfMemory
+
+-- the file was read and is media that were not sealed: they break this rule first, or memory ran out
+pub record SealFails (old : ShelfState) (names : SealNames) (fault : SealFault) : Type 0 where
+  pub media : Media
+  pub read : MediaRead old names.media media
+  pub refused : IsRefused names.plan media fault
+
 -- what each end of the reading of a script says
 abbrev pub ScriptEnds : ScriptEnd → ShelfState → ShelfState → List ℕ → Type 0
 ScriptEnds (script_end.Unread end) old new name = ReadEnds end old new name MAX_SCRIPT_BYTES
@@ -116,6 +142,8 @@ pub data Input : Type 0 where
   MediaFile : List ℕ → Input
   DeskFile : List ℕ → Input
   RequestFile : List ℕ → Input
+  -- media that are to be sealed
+  ClearFile : SealNames → Input
 
 -- the file was read, and is what it is to be
 abbrev pub IsTaken : ShelfState → Input → Type 0
@@ -123,6 +151,7 @@ IsTaken s (ScriptFile name) = ReadsScript s name
 IsTaken s (MediaFile name) = ReadsMedia s name
 IsTaken s (DeskFile name) = ReadsDesk s name
 IsTaken s (RequestFile name) = ReadsRequest s name
+IsTaken s (ClearFile names) = ReadsClear s names
 
 -- the reading of this file has ended the command
 abbrev pub InputEnds : Input → Refusal → ShelfState → ShelfState → Type 0
@@ -130,6 +159,7 @@ InputEnds (ScriptFile name) refusal old new = (end : ScriptEnd) × (refusal ≡ 
 InputEnds (MediaFile name) refusal old new = (end : MediaEnd) × (refusal ≡ NoMedia end) × MediaEnds end old new name
 InputEnds (DeskFile name) refusal old new = (end : DeskEnd) × (refusal ≡ NoDesk end) × DeskEnds end old new name
 InputEnds (RequestFile name) refusal old new = (end : ReadEnd) × (refusal ≡ NoRequest end) × ReadEnds end old new name MAX_REQUEST_BYTES
+InputEnds (ClearFile names) refusal old new = ((end : MediaEnd) × (refusal ≡ NoMedia end) × MediaEnds end old new names.media) ⊎ ((fault : SealFault) × (refusal ≡ seal_refusal fault) × SealFails old names fault)
 
 -- of the files, read in this order, the first that was not taken has ended the command; where each was taken, memory was missing
 abbrev pub FirstEnds : List Input → Refusal → ShelfState → ShelfState → Type 0
@@ -166,12 +196,18 @@ pub record HasDesk (s : ShelfState) (name : List ℕ) : Type 0 where
   pub rows : List Row
   pub fits : desk_of file.bytes ≡ Ok rows
 
+-- the file is media that may be sealed
+pub record HasClear (s : ShelfState) (names : SealNames) : Type 0 where
+  pub has : HasMedia s names.media
+  pub allowed : refusal names.plan has.media ≡ None
+
 -- the file is in its grammar and limits, on a shelf that tells its files
 abbrev pub HasInput : ShelfState → Input → Type 0
 HasInput s (ScriptFile name) = HasScript s name
 HasInput s (MediaFile name) = HasMedia s name
 HasInput s (DeskFile name) = HasDesk s name
 HasInput s (RequestFile name) = HasFile s name MAX_REQUEST_BYTES
+HasInput s (ClearFile names) = HasClear s names
 
 -- each of the files is
 abbrev pub HasInputs : ShelfState → List Input → Type 0

@@ -5,6 +5,7 @@ pub mod ReadAll
 pub mod Inputs
 pub mod Ends
 pub mod Written
+pub mod Sealed
 pub mod Told
 pub mod Played
 pub mod Says

@@ -1,11 +1,12 @@
 -- What the answer of the top call says.
-use Rattle.std.specs.Prelude.{ℕ, ◌≡◌, ◌⊎◌, List, Result, Ok, Err}
+use Rattle.std.specs.Prelude.{ℕ, ◌≡◌, ◌⊎◌, List, [], ◌∷◌, Result, Ok, Err}
 use Rattle.eme_edge.specs.Shelf.{ShelfState, Rose}
 use Rattle.eme_edge.specs.declared.shelf.ShelfFault.TheVariants.{Failed, OutOfMemory as NoMemory}
-use Rattle.player_cli.specs.Command.{Asked, Play, Tell, quiet_command, command}
+use Rattle.player_cli.specs.Command.{Asked, Play, Seal, Tell, quiet_command, command}
 use Rattle.player_cli.specs.Ends.{outcome_of}
-use Rattle.player_cli.specs.Inputs.{Input, FirstEnds, HasInputs}
+use Rattle.player_cli.specs.Inputs.{Input, ClearFile, FirstEnds, HasInputs}
 use Rattle.player_cli.specs.Played.{play_inputs, HasPlayed, HasPartlyPlayed}
+use Rattle.player_cli.specs.Sealed.{HasSealed, HasPartlySealed}
 use Rattle.player_cli.specs.Told.{inputs_of, HasTold, HasPartlyTold}
 use Rattle.player_cli.specs.Written.{IsUntouched}
 use Rattle.player_cli.specs.declared.end.End.{End}
@@ -17,21 +18,25 @@ use Rattle.eme_edge.specs.declared.words.UsageFault.{UsageFault}
 -- the answer of a command that has done all of it
 abbrev pub done_of : Asked → Outcome
 done_of (Play names) = Played
+done_of (Seal names) = Done
 done_of (Tell query) = Done
 
 -- the files that a command reads, in order
 abbrev pub all_inputs : Asked → List Input
 all_inputs (Play names) = play_inputs names
+all_inputs (Seal names) = ClearFile names ∷ []
 all_inputs (Tell query) = inputs_of query
 
 -- the command has done all of it
 abbrev pub HasDone : Asked → ShelfState → ShelfState → Type 0
 HasDone (Play names) old new = HasPlayed old new names
+HasDone (Seal names) old new = HasSealed old new names
 HasDone (Tell query) old new = HasTold old new query
 
 -- the command has begun to write or to say, and has stopped there
 abbrev pub HasStopped : Asked → ShelfState → ShelfState → Type 0
 HasStopped (Play names) old new = HasPartlyPlayed old new names
+HasStopped (Seal names) old new = HasPartlySealed old new names
 HasStopped (Tell query) old new = HasPartlyTold old new query
 
 -- what each end of a command says

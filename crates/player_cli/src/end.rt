@@ -2,7 +2,7 @@
 ghost use Rattle.std.specs.Prelude.{◌≡◌};
 ghost use Rattle.player_cli.specs.Ends.{read_outcome, script_outcome, media_outcome, desk_outcome, refusal_outcome, outcome_of, writing_end};
 
-use crate::outcome::{Outcome, Which};
+use crate::outcome::{Outcome, SealKind, Which};
 use crate::read::ReadEnd;
 use eme_edge::ShelfFault;
 use eme_types::{MAX_MEDIA_BYTES, MAX_SCRIPT_BYTES};
@@ -42,6 +42,8 @@ pub enum Refusal {
     Desk(DeskEnd),
     /// The licence request was not read.
     Request(ReadEnd),
+    /// The media are read, and may not be sealed.
+    Seal(SealKind),
     OutOfMemory,
 }
 
@@ -110,6 +112,7 @@ fn refusal_outcome(refusal: Refusal) -> Outcome
         Refusal::Media(end) => media_outcome(end),
         Refusal::Desk(end) => desk_outcome(end),
         Refusal::Request(end) => read_outcome(Which::Request, MAX_REQUEST_BYTES, end),
+        Refusal::Seal(kind) => Outcome::SealRefused(kind),
         Refusal::OutOfMemory => Outcome::OutOfMemory,
     }
 }

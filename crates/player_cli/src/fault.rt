@@ -1,8 +1,8 @@
 // What an outcome means to the outside: an exit status and a line on standard error.
 ghost use Rattle.std.specs.Prelude.{◌≡◌, IfOk, string_bytes};
-ghost use Rattle.player_cli.specs.Faults.{status_of, text_of, usage_name, script_name, media_name, desk_name};
+ghost use Rattle.player_cli.specs.Faults.{status_of, text_of, usage_name, script_name, media_name, desk_name, seal_name};
 
-use crate::outcome::{Outcome, Which};
+use crate::outcome::{Outcome, SealKind, Which};
 use eme_edge::{UsageFault, UsageKind};
 use eme_types::Bytes;
 use license_desk::DeskKind;
@@ -20,10 +20,15 @@ pub fn status(outcome: &Outcome) -> u8
         Outcome::Usage(_) => 2,
         Outcome::ScriptRefused { line: _, kind: _ } => 3,
         Outcome::MediaRefused { place: _, kind: _ } => 4,
+        Outcome::SealRefused(kind) => {
+            let name = seal_name(*kind);
+            format!(in alloc; "seal: {name}\n")
+        }
         Outcome::TooLarge { which: _, limit: _ } => 5,
         Outcome::ReadFault => 6,
         Outcome::WriteFault => 7,
         Outcome::OutOfMemory => 8,
+        Outcome::SealRefused(_) => 9,
         Outcome::DeskRefused { line: _, kind: _ } => 10,
     }
 }
@@ -116,6 +121,16 @@ fn desk_name(kind: DeskKind) -> &'static str
         DeskKind::Key => "Key",
         DeskKind::Number => "Number",
         DeskKind::DuplicateKid => "DuplicateKid",
+    }
+}
+
+fn seal_name(kind: SealKind) -> &'static str
+    ensures { result.now ≡ seal_name kind }
+{
+    match kind {
+        SealKind::HasInit => "HasInit",
+        SealKind::Protected => "Protected",
+        SealKind::TooLarge => "TooLarge",
     }
 }
 

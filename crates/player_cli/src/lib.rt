@@ -12,6 +12,8 @@ mod play;
 mod quiet;
 mod read;
 mod request;
+mod seal;
+mod seal_words;
 mod tell;
 #[cfg(test)]
 mod tests;
@@ -24,7 +26,7 @@ pub use decrypt_workers::{FreeGate, Gate, Spot};
 pub use eme_edge::{UsageFault, UsageKind};
 pub use fault::{fault_text, status};
 pub use license_desk::DeskKind;
-pub use outcome::{Outcome, Which};
+pub use outcome::{Outcome, SealKind, Which};
 pub use script_lang::ScriptKind;
 pub use top::{run_player, run_quiet};
 pub use track_media::MediaKind;

@@ -17,6 +17,17 @@ pub enum Which {
     Request,
 }
 
+/// Why media are not sealed.
+#[derive(Clone, Copy, Debug, PartialEq, Eq)]
+pub enum SealKind {
+    /// A fragment has initialization data.
+    HasInit,
+    /// A sample is protected.
+    Protected,
+    /// The file would have more than 67,108,864 bytes.
+    TooLarge,
+}
+
 /// What the top call answers.
 #[derive(Clone, Copy, Debug, PartialEq, Eq)]
 pub enum Outcome {
@@ -32,6 +43,8 @@ pub enum Outcome {
     MediaRefused { place: u64, kind: MediaKind },
     /// The first line of a table of keys with a broken rule, counted from 1, and its first broken rule; nothing was said.
     DeskRefused { line: u32, kind: DeskKind },
+    /// The media are read, and may not be sealed; nothing was written or said.
+    SealRefused(SealKind),
     /// The file has more bytes than the limit; nothing was written or said.
     TooLarge { which: Which, limit: u64 },
     /// A read failed, or a file that the command has to read is not there; nothing was written or said.

@@ -1,6 +1,6 @@
-// The words of the commands that play no files.
+// The words of the commands that say a text.
 ghost use Rattle.std.specs.Prelude.{◌≡◌, map, string_bytes, MatchResult, Ok, Err};
-ghost use Rattle.player_cli.specs.Command.{quiet_command, inspect_words, request_words, demo_words, desk_words, desk_request, kind_of, Tell, Inspect, Demo, Desk, desk_names, IsRequested, IsQuiet};
+ghost use Rattle.player_cli.specs.Command.{told_command, inspect_words, request_words, demo_words, desk_words, desk_request, kind_of, Tell, Inspect, Demo, Desk, desk_names, IsRequested, IsQuiet};
 
 use eme_edge::{UsageFault, UsageKind, bad_word, next_word};
 use eme_types::{InitKind, MAX_MOMENT};
@@ -21,7 +21,7 @@ pub struct DeskWords<'a> {
     pub moment: u64,
 }
 
-/// What the words of a command ask for that plays no files.
+/// What the words of a command ask for that says a text.
 #[derive(Clone, Copy)]
 pub enum QuietWords<'a> {
     /// The text of the media file of this name.
@@ -44,10 +44,10 @@ fn kind_of(word: &str) -> Option<InitKind>
     None
 }
 
-/// Reads the words from left to right. `play` is none of these commands.
-#[tactic(auto, unfolding(crate::specs::Command::quiet_command))]
+/// Reads the words from left to right. `play` and `seal` are none of these commands.
+#[tactic(auto, unfolding(crate::specs::Command::told_command))]
 pub fn read_quiet(words: &[String]) -> Result<QuietWords<'_>, UsageFault>
-    ensures { MatchResult result (IsQuiet (quiet_command (map string_bytes words.now))) (λ e. quiet_command (map string_bytes words.now) ≡ Err e) }
+    ensures { MatchResult result (IsQuiet (told_command (map string_bytes words.now))) (λ e. told_command (map string_bytes words.now) ≡ Err e) }
 {
     let Some((command, rest)) = next_word(words) else {
         return Err(bad_word(1, UsageKind::MissingCommand));

@@ -27,7 +27,7 @@ impl Model for TextFile {
 }
 
 impl TextFile {
-    fn new(name: String, text: Bytes) -> TextFile
+    pub fn new(name: String, text: Bytes) -> TextFile
         ensures { result ≡ record { name = string_bytes name; text = text } }
     {
         TextFile { name, text }

@@ -1,12 +1,14 @@
 // The top calls.
 ghost use Rattle.std.specs.Prelude.{map, string_bytes};
-ghost use Rattle.player_cli.specs.Command.{command, quiet_command, play_words};
+ghost use Rattle.player_cli.specs.Command.{command, quiet_command, told_command, play_words, seal_words};
 ghost use Rattle.player_cli.specs.Says.{Says, QuietSays, SaysOf, IsDoneWhole};
 
 use crate::end::outcome_of;
 use crate::outcome::Outcome;
 use crate::play::play_files;
 use crate::quiet::read_quiet;
+use crate::seal::seal_file;
+use crate::seal_words::{read_seal, seal_command};
 use crate::tell::tell;
 use crate::words::{play_command, read_play};
 use decrypt_workers::Gate;
@@ -72,6 +74,26 @@ fn run_play<R: Threads + Wait + Sync, S: Shelf, G: Gate + Sync>(
 
 fn run_quietly<S: Shelf>(alloc: Global, words: &[String], shelf: &mut S) -> Outcome
     ensures { QuietSays (map string_bytes words.now) result (S.state shelf.old) (S.state shelf.new) }
+{
+    match seal_command(words) {
+        None => run_telling(alloc, words, shelf),
+        Some(rest) => run_seal(alloc, rest, shelf),
+    }
+}
+
+/// Seals what the words behind `seal` name.
+fn run_seal<S: Shelf>(alloc: Global, words: &[String], shelf: &mut S) -> Outcome
+    ensures { SaysOf (seal_words (map string_bytes words.now)) result (S.state shelf.old) (S.state shelf.new) }
+{
+    match read_seal(words) {
+        Err(fault) => Outcome::Usage(fault),
+        Ok(asked) => outcome_of(Outcome::Done, seal_file(alloc, asked, shelf)),
+    }
+}
+
+/// Says the text that the words ask for.
+fn run_telling<S: Shelf>(alloc: Global, words: &[String], shelf: &mut S) -> Outcome
+    ensures { SaysOf (told_command (map string_bytes words.now)) result (S.state shelf.old) (S.state shelf.new) }
 {
     match read_quiet(words) {
         Err(fault) => Outcome::Usage(fault),

@@ -29,7 +29,7 @@ fn append_text<S: Shelf>(shelf: &mut S, name: &str, text: &[u8]) -> Result<(), S
 }
 
 /// Writes each file by one start and then appends, in order.
-fn write_files<S: Shelf>(shelf: &mut S, files: &[TextFile]) -> Result<(), ShelfFault>
+pub fn write_files<S: Shelf>(shelf: &mut S, files: &[TextFile]) -> Result<(), ShelfFault>
     requires { HaveDistinctNames files.now }
     ensures ok { OnOk result (FilesSoFar (S.state shelf.old) (S.state shelf.new) files.now (length files.now)) }
     ensures err { OnErr result (StopsAtStart (S.state shelf.old) (S.state shelf.new) files.now ⊎ StopsInText (S.state shelf.old) (S.state shelf.new) files.now) }
