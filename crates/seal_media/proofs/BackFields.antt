@@ -35,10 +35,6 @@ signed_again e n rest small =
       to_z_pos w32 n small,
     ) refl
 
--- the last number of a body
-last_again : (n : ℕ) → n < 2 ^ 32 → u32 (to_be_bytes w32 n) ≡ Ok (n, [])
-last_again n small = rw (from_be_bytes-to_be_bytes_4 n small) refl
-
 pub tkhd_again : (id : ℕ) → id < 2 ^ 32 → tkhd_fields (tkhd_body id) ≡ Ok (id, [])
 unfolding tkhd_fields tkhd_body
 tkhd_again id small = rw (from_be_bytes-to_be_bytes_4 id small) refl

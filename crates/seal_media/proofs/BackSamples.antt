@@ -181,9 +181,6 @@ All-at plan (t ∷ ss) zero s all e =
     subst P same (All-head (HasPlan plan) t ss all)
 All-at plan (t ∷ ss) (suc j) s all e = All-at plan ss j s (All-tail (HasPlan plan) t ss all) e
 
-whole_sample : (s : EncSample) (bytes : List ℕ) → bytes ≡ s.bytes → record { protect = s.protect; bytes = bytes } ≡ s
-whole_sample s bytes e = rw e refl
-
 pub samples_again : (plan : SealPlan) (file : List ℕ) (place at : ℕ) (ss : List EncSample) → All (HasPlan plan) ss → Stands file at (data_of ss)
     → samples_at file place (ranges_from at ss) (plan_rules plan ss) (map item_of ss) ≡ Ok ss
 unfolding samples_at sample_at
