@@ -1,5 +1,7 @@
 // What only a shelf in memory shows: calls that fail by their number. What the built program shows stands in checks/ and examples/.
-use crate::{FreeGate, Outcome, UsageFault, UsageKind, fault_text, run_player, run_quiet, status};
+use crate::{
+    FreeGate, Outcome, SealKind, UsageFault, UsageKind, fault_text, run_player, run_quiet, status,
+};
 use eme_edge::MemoryShelf;
 use std::alloc::{AllocError, Global};
 use std::sync::Wait;
@@ -334,4 +336,55 @@ fn no_word_is_no_command(rt: HostRuntime) {
         run_player(&rt, rt.alloc(), &[], &mut shelf, &FreeGate),
         none
     );
+}
+
+// The block of CLEAR under cbcs with the key and the IV of NIST SP 800-38A, appendix F.2.1.
+const BLOCK: &[u8] = b"SMPL 1\ntrack 1\nfragment\nsample 1 clear 6bc1bee22e409f96e93d7e117393172a\n";
+
+const CIPHERTEXT: [u8; 16] = [
+    0x76, 0x49, 0xab, 0xac, 0x81, 0x19, 0xb2, 0x46, 0xce, 0xe9, 0x8e, 0x9b, 0x12, 0xe9, 0x19, 0x7d,
+];
+
+// The scheme, the key id, the key and the IV.
+const PLAN: &str =
+    "cbcs 000102030405060708090a0b0c0d0e0f 2b7e151628aed2a6abf7158809cf4f3c 000102030405060708090a0b0c0d0e0f";
+
+// Seals the block with a lead, where the k-th append fails, and answers how the output ends.
+fn seal_with<R: Threads + Wait + Sync>(
+    rt: &R,
+    alloc: Global,
+    media: &str,
+    lead: &str,
+    k: u64,
+) -> Result<(Outcome, Held), AllocError> {
+    let mut shelf = MemoryShelf::new(alloc);
+    shelf.put_file("b", BLOCK)?;
+    shelf.put_file("m", MEDIA)?;
+    shelf.fail_append(k)?;
+    let line = format!(in alloc; "seal {media} {PLAN} {lead} out")?;
+    let outcome = run_line(rt, &mut shelf, alloc, line.as_str())?;
+    let last = if lead == "0" { CIPHERTEXT } else { CLEAR };
+    let held = match shelf.file("out") {
+        None => Held::Nothing,
+        Some(found) if found.ends_with(&last) => Held::Whole,
+        Some(found) => Held::Front(found.len()),
+    };
+    Ok((outcome, held))
+}
+
+#[test]
+fn what_is_sealed_is_written(rt: HostRuntime) -> Result<(), Fail> {
+    for (media, lead, k, outcome, held) in [
+        ("b", "0", 2, Outcome::Done, Held::Whole),
+        ("b", "20", 2, Outcome::Done, Held::Whole),
+        ("b", "0", 1, Outcome::WriteFault, Held::Front(0)),
+        ("m", "0", 1, Outcome::SealRefused(SealKind::Protected), Held::Nothing),
+    ] {
+        let left = seal_with(&rt, rt.alloc(), media, lead, k)?;
+        assert_eq!(rt; left, (outcome, held));
+        let told = fault_text(rt.alloc(), &left.0)?;
+        assert_eq!(rt; told.as_slice() == b"seal: Protected\n".as_slice(), media == "m");
+    }
+    assert_eq!(rt; status(&Outcome::SealRefused(SealKind::Protected)), 9);
+    Ok(())
 }
