@@ -20,10 +20,6 @@ pub fn status(outcome: &Outcome) -> u8
         Outcome::Usage(_) => 2,
         Outcome::ScriptRefused { line: _, kind: _ } => 3,
         Outcome::MediaRefused { place: _, kind: _ } => 4,
-        Outcome::SealRefused(kind) => {
-            let name = seal_name(*kind);
-            format!(in alloc; "seal: {name}\n")
-        }
         Outcome::TooLarge { which: _, limit: _ } => 5,
         Outcome::ReadFault => 6,
         Outcome::WriteFault => 7,
@@ -151,6 +147,10 @@ fn text_of(alloc: Global, outcome: &Outcome) -> Result<String, AllocError>
         Outcome::MediaRefused { place, kind } => {
             let name = media_name(*kind);
             format!(in alloc; "media: byte {place}: {name}\n")
+        }
+        Outcome::SealRefused(kind) => {
+            let name = seal_name(*kind);
+            format!(in alloc; "seal: {name}\n")
         }
         Outcome::TooLarge {
             which: Which::Script,
