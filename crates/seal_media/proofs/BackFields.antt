@@ -1,11 +1,11 @@
 -- The fields of the boxes of a movie and its fragments are read as they were written.
-use Rattle.std.proofs.Common.{◌≡◌, ℕ, suc, ◌+◌, ◌^◌, ◌<◌, Bool, true, false, ltb, List, [], ◌∷◌, ◌++◌, length, map, replicate, Option, Some, None, Result, Ok, Err, ℤ, pos, refl, sym, ap, ◌∙◌, append-nil, arith}
+use Rattle.std.proofs.Common.{◌≡◌, ℕ, suc, ◌^◌, ◌<◌, false, ltb, List, [], ◌∷◌, ◌++◌, length, map, Some, None, Ok, pos, refl, sym, append-nil, arith}
 use Rattle.std.specs.Prelude.{unwrap_or}
 use Rattle.std.specs.List.{All, flat_map}
-use Rattle.std.specs.Int.{w8, w32, from_be_bytes, to_be_bytes}
+use Rattle.std.specs.Int.{w32, from_be_bytes, to_be_bytes}
 use Rattle.std.proofs.lemmas.Bool.{le-ltb}
 use Rattle.std.proofs.lemmas.Int.{to_z_pos}
-use Rattle.std.proofs.lemmas.List.{take_at, drop_at, length-append, length-map}
+use Rattle.std.proofs.lemmas.List.{length-append, length-map}
 use Rattle.std.proofs.lemmas.List.Elements.{All-map, All-weaker}
 use Rattle.std.proofs.lemmas.List.Folds.{flat_map-map}
 use Rattle.std.proofs.lemmas.Nat.{from_be_bytes-to_be_bytes_4}
@@ -16,7 +16,7 @@ use Rattle.frag_boxes.specs.declared.records.RunItem.{RunItem}
 use Rattle.frag_boxes.specs.declared.records.Trun.{Trun}
 use Rattle.frag_boxes.specs.declared.records.TrackTrex.{TrackTrex}
 use Rattle.frag_boxes.specs.Fields.{tfhd_fields, item, trun_fields, tkhd_fields, stsz_fields, stsd_fields, trex_fields, u32}
-use Rattle.prot_boxes.proofs.Again.{IsAgain, u8_again, u32_again, zero_again, flags_again, bytes_again, repeated_again}
+use Rattle.prot_boxes.proofs.Again.{IsAgain, u8_again, u32_again, flags_again, repeated_again}
 use Rattle.seal_media.specs.Layout.{tkhd_body, stsz_body, trex_body, tfhd_body, trun_body}
 
 -- flags of 24 bits

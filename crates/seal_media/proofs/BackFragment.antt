@@ -1,13 +1,13 @@
 -- A movie fragment that was written is read again as boxes: a track fragment for each part.
-use Rattle.std.proofs.Common.{◌≡◌, ℕ, ◌+◌, ◌^◌, ◌<◌, ◌≤◌, Bool, true, false, List, [], ◌∷◌, ◌++◌, length, map, codes, Option, Some, None, Result, Ok, Err, refl, sym, ap, ◌∙◌, arith}
+use Rattle.std.proofs.Common.{◌≡◌, ℕ, ◌+◌, ◌^◌, ◌<◌, true, false, List, [], ◌∷◌, ◌++◌, length, map, codes, Ok, refl, ap, arith}
 use Rattle.std.specs.List.{All, sum_by}
 use Rattle.std.proofs.lemmas.List.{length-map}
 use Rattle.std.proofs.lemmas.List.Sums.{sum_by-cons}
 use Rattle.std.proofs.lemmas.List.Elements.{All-nil, All-cons, All-head, All-tail}
 use Rattle.eme_types.specs.declared.sample.EncSample.{EncSample}
 use Rattle.eme_types.specs.declared.media.TrackPart.{TrackPart}
-use Rattle.eme_types.specs.Fed.{sample_bytes, part_samples, part_bytes}
-use Rattle.iso_boxes.specs.Walk.{inside, walk}
+use Rattle.eme_types.specs.Fed.{sample_bytes, part_bytes}
+use Rattle.iso_boxes.specs.Walk.{walk}
 use Rattle.iso_boxes.specs.Writing.{boxed}
 use Rattle.iso_boxes.specs.Children.{all_knowing}
 use Rattle.prot_boxes.proofs.Again.{box_of}
@@ -17,13 +17,11 @@ use Rattle.prot_boxes.specs.declared.senc.SencItem.{SencItem}
 use Rattle.frag_boxes.specs.declared.records.Span.{Span}
 use Rattle.frag_boxes.specs.declared.records.Traf.{Traf}
 use Rattle.frag_boxes.specs.declared.records.Moof.{Moof}
-use Rattle.frag_boxes.specs.declared.moof.TrafPart.{TrafPart}
 use Rattle.frag_boxes.specs.declared.moof.TrafPart.TheVariants as part
-use Rattle.frag_boxes.specs.declared.moof.MoofPart.{MoofPart}
 use Rattle.frag_boxes.specs.declared.moof.MoofPart.TheVariants as moof_part
 use Rattle.frag_boxes.specs.Moof.{header_fault, traf_box as traf_kind, part_at, head_seen, traf_at, moof_box, moof_part_at, trafs, psshs, moof_at}
 use Rattle.seal_media.specs.Layout.{tfhd_body, trun_body, traf_body, traf_box, traf_boxes, item_of}
-use Rattle.seal_media.proofs.BackStands.{Stands, stands_left, stands_right, stands_body, stands_next}
+use Rattle.seal_media.proofs.BackStands.{Stands, stands_left, stands_body, stands_next}
 use Rattle.seal_media.proofs.BackWalk.{reads_end, reads_on, reads_last}
 use Rattle.seal_media.proofs.BackFields.{tfhd_read, tfhd_again, trun_read, trun_again}
 

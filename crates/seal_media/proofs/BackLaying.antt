@@ -1,7 +1,6 @@
 -- The samples of a part lie one behind the other from where its data begins, and are found there.
-use Rattle.std.proofs.Common.{◌≡◌, ℕ, zero, suc, ◌+◌, ◌-◌, ◌^◌, ◌<◌, ◌≤◌, Bool, true, false, ltb, List, [], ◌∷◌, ◌++◌, length, map, ℤ, pos, Option, Some, None, Result, Ok, Err, refl, sym, ap, subst, ◌∙◌, arith, append-nil}
-use Rattle.std.specs.Prelude.{slice_get, unwrap_or, ◌||◌, int_lt}
-use Rattle.std.specs.Option.{option_map}
+use Rattle.std.proofs.Common.{◌≡◌, ℕ, zero, suc, ◌+◌, ◌-◌, ◌≤◌, false, ltb, List, [], ◌∷◌, length, map, pos, Some, Result, Ok, refl, ap, ◌∙◌, arith, append-nil}
+use Rattle.std.specs.Prelude.{slice_get}
 use Rattle.std.specs.List.{sum_by, flat_map}
 use Rattle.std.proofs.lemmas.Bool.{le-ltb}
 use Rattle.std.proofs.lemmas.Option.{slice_get-map, same_Some}
@@ -10,12 +9,11 @@ use Rattle.std.proofs.lemmas.List.Concat.{length-flat_map}
 use Rattle.std.proofs.lemmas.List.Sums.{sum_by-cons}
 use Rattle.eme_types.specs.declared.sample.EncSample.{EncSample}
 use Rattle.eme_types.specs.Fed.{sample_bytes}
-use Rattle.frag_boxes.specs.declared.records.Trun.{Trun}
 use Rattle.sample_aux.specs.declared.fault.AuxFault.{AuxFault}
 use Rattle.sample_aux.specs.declared.laying.DataCursor.{DataCursor}
 use Rattle.sample_aux.specs.declared.laying.SampleRange.{SampleRange}
 use Rattle.sample_aux.specs.InOrder.{in_order, learnt}
-use Rattle.sample_aux.specs.Laying.{size_in, size_of, range_at, after, run_at, run_laid, begun, runs_laid}
+use Rattle.sample_aux.specs.Laying.{size_of, range_at, after, run_at, run_laid, runs_laid}
 use Rattle.sample_aux.specs.Resolve.{place_of, bytes_at}
 use Rattle.seal_media.proofs.BackStands.{Stands, stands_left, stands_right}
 use Rattle.seal_media.proofs.BackFields.{item_read, trun_read}

@@ -1,24 +1,23 @@
 -- A movie that was written is read again: its tracks, what holds for their samples, and its initialization data.
-use Rattle.std.proofs.Common.{◌≡◌, ℕ, ◌+◌, ◌^◌, ◌<◌, ◌≤◌, Bool, true, false, List, [], ◌∷◌, ◌++◌, length, map, codes, Option, Some, None, Result, Ok, Err, refl, sym, ap, subst, ◌∙◌, inl, inr, arith, append_assoc, append-nil, length-append}
-use Rattle.std.specs.Prelude.{◌==◌, ◌||◌, not, nat_lt}
+use Rattle.std.proofs.Common.{◌≡◌, ℕ, ◌+◌, ◌^◌, ◌<◌, ◌≤◌, Bool, true, false, List, [], ◌∷◌, ◌++◌, length, map, codes, Some, Ok, refl, sym, ap, subst, arith, append_assoc, append-nil, length-append}
+use Rattle.std.specs.Prelude.{◌==◌, not, nat_lt}
 use Rattle.std.specs.List.{All, flat_map, list_all}
-use Rattle.std.proofs.lemmas.Bool.{lt-ltb, and_parts, or_parts, and_from, not-true, eqb-false, ne_eqb}
+use Rattle.std.proofs.lemmas.Bool.{lt-ltb, and_parts, or_parts, not-true, eqb-false, ne_eqb}
 use Rattle.std.proofs.lemmas.List.Elements.{All-head, All-tail}
 use Rattle.eme_types.specs.Fed.{is_among, are_distinct}
-use Rattle.iso_boxes.specs.Walk.{Found, inside, walk}
+use Rattle.iso_boxes.specs.Walk.{walk}
 use Rattle.iso_boxes.specs.Writing.{boxed}
 use Rattle.iso_boxes.specs.Children.{all_knowing}
 use Rattle.prot_boxes.proofs.Again.{box_of}
 use Rattle.init_data.specs.Pssh.{pssh_body, pssh_box}
-use Rattle.frag_boxes.specs.declared.fault.FragFault.{FragFault}
 use Rattle.frag_boxes.specs.declared.records.Span.{Span}
 use Rattle.frag_boxes.specs.declared.records.MovieTrack.{MovieTrack}
 use Rattle.frag_boxes.specs.declared.records.Movie.{Movie}
 use Rattle.frag_boxes.specs.declared.records.TrackTrex.{TrackTrex}
 use Rattle.frag_boxes.specs.declared.moov.MoovPart.{MoovPart}
 use Rattle.frag_boxes.specs.declared.moov.MoovPart.TheVariants as part
-use Rattle.frag_boxes.specs.Moof.{header_fault, span}
-use Rattle.frag_boxes.specs.Table.{is, somes}
+use Rattle.frag_boxes.specs.Moof.{header_fault}
+use Rattle.frag_boxes.specs.Table.{somes}
 use Rattle.frag_boxes.specs.Moov.{among, mvex_part_at, mvex_at, with_trex, moov_box, moov_part_at, with_track, tracks_of, moov_psshs, trexes_of, moov_at}
 use Rattle.seal_media.specs.declared.plan.SealPlan.{SealPlan}
 use Rattle.seal_media.specs.Sealed.{pssh_of}

@@ -1,26 +1,19 @@
 -- The protection in a movie that was written passes, and each track is known with it.
-use Rattle.std.proofs.Common.{◌≡◌, ◌⊎◌, inl, inr, ℕ, ◌+◌, ◌^◌, ◌<◌, ◌≤◌, Bool, true, false, List, [], ◌∷◌, ◌++◌, length, map, codes, Option, Some, None, Result, Ok, Err, refl, sym, ap, subst, ◌∙◌, ◌-◌, arith, append_assoc, append-nil, length-append}
-use Rattle.std.specs.Prelude.{◌==◌, ◌||◌, ◌&&◌, IfSome, is_some}
-use Rattle.std.specs.List.{All, flat_map, list_any}
-use Rattle.std.proofs.lemmas.Bool.{eqb-true}
+use Rattle.std.proofs.Common.{◌≡◌, inl, inr, ℕ, ◌+◌, ◌^◌, ◌<◌, ◌≤◌, true, List, [], ◌∷◌, ◌++◌, length, map, codes, Some, Ok, refl, ap, subst, ◌-◌, arith, append_assoc, append-nil, length-append}
+use Rattle.std.specs.List.{All, flat_map}
 use Rattle.std.proofs.lemmas.Bool.Decides.{eqb_tells}
 use Rattle.eme_types.specs.declared.sample.Scheme.{Scheme}
 use Rattle.eme_types.specs.declared.sample.Scheme.TheVariants.{Cenc, Cbcs}
 use Rattle.std.specs.Int.{w32, to_be_bytes}
 use Rattle.eme_types.specs.Fed.{is_among, are_distinct}
-use Rattle.iso_boxes.specs.Walk.{inside}
 use Rattle.iso_boxes.specs.Writing.{boxed}
 use Rattle.prot_boxes.proofs.Again.{box_of}
 use Rattle.prot_boxes.proofs.SinfAgain.{sinf_again}
-use Rattle.prot_boxes.specs.Seig.{IsIv, IsCanonical as SuitsSeig}
+use Rattle.prot_boxes.specs.Seig.{IsCanonical as SuitsSeig}
 use Rattle.prot_boxes.specs.Tenc.{seig_of, IsCanonical as SuitsTenc}
 use Rattle.prot_boxes.specs.Sinf.{sinf_body, sinf_at, scheme_rules, cbcs_rules, IsCanonical}
 use Rattle.prot_boxes.specs.declared.tenc.Tenc.{Tenc}
-use Rattle.prot_boxes.specs.declared.sinf.Sinf.{Sinf}
-use Rattle.frag_boxes.specs.declared.records.MovieTrack.{MovieTrack}
-use Rattle.frag_boxes.specs.declared.records.Movie.{Movie}
 use Rattle.frag_boxes.specs.declared.records.TrackTrex.{TrackTrex}
-use Rattle.frag_boxes.specs.declared.records.Trex.{Trex}
 use Rattle.frag_boxes.specs.Moov.{with_trex, trex_of}
 use Rattle.frag_boxes.specs.Tracks.{track_id, track_ids}
 use Rattle.sample_aux.specs.declared.protection.TrackProtection.{TrackProtection}
@@ -34,8 +27,8 @@ use Rattle.sample_aux.specs.Checked.{known_sinf, entry_protection, groups_in, tr
 use Rattle.sample_aux.specs.Resolve.{track_with}
 use Rattle.seal_media.specs.declared.plan.SealPlan.{SealPlan}
 use Rattle.seal_media.specs.Sealed.{crypt_of, skip_of, pssh_of, init_of}
-use Rattle.seal_media.specs.Layout.{tenc_version, own_iv_size, constant_iv, tenc_of, sinf_of, tkhd_body, encv_body, stsd_body, stsz_body, stbl_body, mdia_body, trak_body, trak_box, trex_body, trex_box, moov_body}
-use Rattle.seal_media.proofs.BackStands.{Stands, stands_left, stands_right, stands_body, stands_next, stands_fits}
+use Rattle.seal_media.specs.Layout.{tenc_version, own_iv_size, constant_iv, sinf_of, tkhd_body, encv_body, stsd_body, stsz_body, stbl_body, mdia_body, trak_body, trak_box, trex_body, trex_box, moov_body}
+use Rattle.seal_media.proofs.BackStands.{Stands, stands_left, stands_body, stands_next, stands_fits}
 use Rattle.seal_media.proofs.BackFields.{trex_read}
 use Rattle.seal_media.proofs.BackTable.{entry_read, sinf_stands, encv_stands, track_read}
 use Rattle.seal_media.proofs.BackMovie.{trexes_from, tracks_from, behind_tracks, mvex_place, pssh_place, movie_read, moov_again}

@@ -1,18 +1,15 @@
 -- The track fragments of a movie fragment that was written are resolved to its parts.
-use Rattle.std.proofs.Common.{◌≡◌, ◌⊎◌, inl, inr, ℕ, suc, ◌+◌, ◌-◌, ◌*◌, ◌^◌, ◌<◌, ◌≤◌, Bool, true, false, List, [], ◌∷◌, ◌++◌, length, map, ℤ, pos, codes, Option, Some, None, Result, Ok, Err, refl, sym, ap, subst, ◌∙◌, arith, append_assoc, append-nil, length-append}
+use Rattle.std.proofs.Common.{◌≡◌, ℕ, ◌+◌, ◌-◌, ◌^◌, ◌<◌, ◌≤◌, true, false, List, [], ◌∷◌, ◌++◌, length, map, ℤ, pos, codes, Some, Ok, refl, sym, subst, ◌∙◌, arith, append_assoc, append-nil}
 use Rattle.std.specs.Prelude.{◌==◌, ◌||◌, not, filter}
-use Rattle.std.specs.List.{All, sum_by, flat_map, list_any}
-use Rattle.std.proofs.lemmas.Bool.{and_parts, or_parts, not-true, eqb-false, ne_eqb, and_from, not_from_false}
-use Rattle.std.proofs.lemmas.List.{length-map, map-append}
+use Rattle.std.specs.List.{All, sum_by, flat_map}
+use Rattle.std.proofs.lemmas.Bool.{and_parts, or_parts, not-true, eqb-false, ne_eqb}
+use Rattle.std.proofs.lemmas.List.{map-append}
 use Rattle.std.proofs.lemmas.List.Folds.{list_any-append}
 use Rattle.std.proofs.lemmas.List.Sums.{sum_by-cons}
 use Rattle.std.proofs.lemmas.List.Elements.{All-head, All-tail}
-use Rattle.eme_types.specs.declared.sample.EncSample.{EncSample}
 use Rattle.eme_types.specs.declared.media.TrackPart.{TrackPart}
-use Rattle.eme_types.specs.declared.media.Fragment.{Fragment}
 use Rattle.eme_types.specs.Fed.{is_among, are_distinct, part_track, part_samples, part_bytes, sample_bytes, has_samples}
 use Rattle.iso_boxes.specs.Writing.{boxed}
-use Rattle.sample_aux.specs.declared.laying.DataCursor.{DataCursor}
 use Rattle.sample_aux.specs.declared.protection.MovieProtection.{MovieProtection}
 use Rattle.sample_aux.specs.declared.fragment.Room.{Room}
 use Rattle.sample_aux.specs.Spans.{first_given}
@@ -21,12 +18,12 @@ use Rattle.sample_aux.specs.Groups.{grouping_in, protection_of}
 use Rattle.sample_aux.specs.Resolve.{track_with, samples_of, traf_resolved, trafs_resolved, put_part, joined, known_resolved}
 use Rattle.prot_boxes.specs.Senc.{senc_body}
 use Rattle.seal_media.specs.declared.plan.SealPlan.{SealPlan}
-use Rattle.seal_media.specs.Layout.{sinf_of, item_of, traf_body, traf_box, traf_boxes, part_data}
+use Rattle.seal_media.specs.Layout.{traf_box, traf_boxes, part_data}
 use Rattle.seal_media.proofs.BackStands.{Stands, stands_at, stands_left, stands_right, stands_body, stands_next}
 use Rattle.seal_media.proofs.BackProtection.{known_read}
 use Rattle.seal_media.proofs.BackFragment.{trun_place, senc_said, senc_place, senc_stands, part_sizes, part_items, part_body, part_read, trafs_from, moof_read}
-use Rattle.seal_media.proofs.BackLaying.{ranges_from, ranges_count, cursor, laid_again, data_of, data_length}
-use Rattle.seal_media.proofs.BackSamples.{HasPlan, plan_rules, rules_again, auxiliary_read, auxiliary_again, samples_again, all_good}
+use Rattle.seal_media.proofs.BackLaying.{ranges_count, cursor, laid_again, data_of, data_length}
+use Rattle.seal_media.proofs.BackSamples.{HasPlan, rules_again, auxiliary_again, samples_again, all_good}
 
 -- ---- one part
 

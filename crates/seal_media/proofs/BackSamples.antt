@@ -1,10 +1,9 @@
 -- The samples of a track fragment are read with their protection.
-use Rattle.std.proofs.Common.{◌≡◌, ℕ, zero, suc, ◌+◌, ◌%◌, ◌^◌, ◌<◌, ◌≤◌, Bool, true, false, List, [], ◌∷◌, ◌++◌, length, map, ℤ, codes, Option, Some, None, Result, Ok, Err, refl, sym, ap, subst, ◌∙◌, arith, append-nil}
-use Rattle.std.specs.Prelude.{slice_get, unwrap_or, ◌==◌, not, IfSome}
-use Rattle.std.specs.Option.{option_map}
-use Rattle.std.specs.List.{All, sum_by, flat_map}
+use Rattle.std.proofs.Common.{◌≡◌, ℕ, zero, suc, ◌+◌, ◌%◌, ◌^◌, ◌<◌, true, false, List, [], ◌∷◌, ◌++◌, length, map, ℤ, Option, Some, Ok, refl, sym, subst, ◌∙◌, arith, append-nil}
+use Rattle.std.specs.Prelude.{slice_get, ◌==◌}
+use Rattle.std.specs.List.{All, flat_map}
 use Rattle.std.specs.Int.{w32, to_be_bytes}
-use Rattle.std.proofs.lemmas.Bool.{le-ltb, eq-eqb, ne_eqb}
+use Rattle.std.proofs.lemmas.Bool.{eq-eqb, ne_eqb}
 use Rattle.std.proofs.lemmas.Option.{slice_get-map}
 use Rattle.std.proofs.lemmas.List.{length-map}
 use Rattle.std.proofs.lemmas.List.Elements.{All-nil, All-cons, All-head, All-tail, All-map, All-weaker}
@@ -15,31 +14,27 @@ use Rattle.eme_types.specs.declared.sample.Protect.{Protect}
 use Rattle.eme_types.specs.declared.sample.Scheme.{Scheme}
 use Rattle.eme_types.specs.declared.sample.Scheme.TheVariants.{Cenc, Cbcs}
 use Rattle.eme_types.specs.declared.sample.Sub.{Sub}
-use Rattle.eme_types.specs.WellFormed.{sub_length, is_covered, iv_fits, pattern_fits}
+use Rattle.eme_types.specs.WellFormed.{is_covered, iv_fits, pattern_fits}
 use Rattle.iso_boxes.specs.Walk.{Found}
 use Rattle.prot_boxes.proofs.Again.{u8_again, u32_again, flags_again}
 use Rattle.prot_boxes.proofs.SencAgain.{senc_again}
-use Rattle.prot_boxes.specs.Seig.{IsIv}
 use Rattle.prot_boxes.specs.Senc.{senc_fields, senc_body, iv_length, iv_lengths, item_body, SuitsItem, IsCanonical}
 use Rattle.prot_boxes.specs.declared.fault.ProtKind.TheVariants.{Short}
 use Rattle.prot_boxes.specs.declared.senc.SencItem.{SencItem}
-use Rattle.prot_boxes.specs.declared.sinf.Sinf.{Sinf}
 use Rattle.frag_boxes.specs.declared.records.Traf.{Traf}
 use Rattle.sample_aux.specs.declared.auxiliary.Auxiliary.{Auxiliary}
 use Rattle.sample_aux.specs.declared.groups.SampleProtection.{SampleProtection}
-use Rattle.sample_aux.specs.declared.groups.Protection.{Protection}
 use Rattle.sample_aux.specs.Counting.{count_fields}
 use Rattle.sample_aux.specs.Spans.{first_given, box_at}
 use Rattle.sample_aux.specs.InOrder.{each_passes}
-use Rattle.sample_aux.specs.Groups.{index_at, fields_of, entry_rule, rule_at, rules_at, grouping_in, protection_of}
-use Rattle.sample_aux.specs.Checked.{groups_in}
+use Rattle.sample_aux.specs.Groups.{index_at, entry_rule, rule_at, rules_at}
 use Rattle.sample_aux.specs.Auxiliary.{iv_size_of, by_senc, senc_of, auxiliary_of, rule_of}
-use Rattle.sample_aux.specs.Resolve.{protect_of, sample_at, samples_at, sample_passes, samples_of, item_of as said_of, place_of, bytes_at}
+use Rattle.sample_aux.specs.Resolve.{protect_of, sample_at, samples_at, sample_passes, item_of as said_of, place_of}
 use Rattle.seal_media.specs.declared.plan.SealPlan.{SealPlan}
 use Rattle.seal_media.specs.Sealed.{crypt_of, skip_of}
-use Rattle.seal_media.specs.Layout.{own_iv, own_iv_size, constant_iv, sinf_of, item_in, item_of}
+use Rattle.seal_media.specs.Layout.{own_iv, own_iv_size, sinf_of, item_of}
 use Rattle.seal_media.proofs.BackStands.{Stands}
-use Rattle.seal_media.proofs.BackFragment.{senc_said, part_items}
+use Rattle.seal_media.proofs.BackFragment.{senc_said}
 use Rattle.seal_media.proofs.BackLaying.{numbers_again, ranges_from, ranges_count, data_of, bytes_again}
 
 -- ---- a sample of the plan

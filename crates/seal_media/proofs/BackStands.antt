@@ -1,5 +1,5 @@
 -- Where a part of a file stands, down through the boxes around it.
-use Rattle.std.proofs.Common.{◌≡◌, ℕ, ◌+◌, ◌-◌, ◌≤◌, ◌<◌, ◌^◌, List, [], ◌∷◌, ◌++◌, length, take, drop, refl, sym, ap, ◌∙◌, subst, arith, length-append}
+use Rattle.std.proofs.Common.{◌≡◌, ℕ, ◌+◌, ◌≤◌, ◌<◌, ◌^◌, List, ◌++◌, length, take, drop, refl, sym, ap, ◌∙◌, subst, arith, length-append}
 use Rattle.std.proofs.lemmas.List.{take_all, take-take, take_at, drop_at, drop-drop, drop-take}
 use Rattle.std.specs.Int.{w32, to_be_bytes}
 use Rattle.iso_boxes.specs.Writing.{boxed}

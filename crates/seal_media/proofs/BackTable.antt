@@ -1,14 +1,13 @@
 -- A track that was written is read again: its sample table with one protected entry, and its id.
-use Rattle.std.proofs.Common.{◌≡◌, ℕ, ◌+◌, ◌^◌, ◌<◌, ◌≤◌, Bool, true, false, ltb, List, [], ◌∷◌, ◌++◌, length, drop, replicate, codes, Option, Some, None, Result, Ok, Err, refl, sym, ap, ◌∙◌, arith}
+use Rattle.std.proofs.Common.{◌≡◌, ℕ, ◌+◌, ◌^◌, ◌<◌, true, false, ltb, List, [], ◌∷◌, ◌++◌, length, replicate, codes, None, Ok, refl, arith}
 use Rattle.std.specs.Int.{w32, to_be_bytes}
 use Rattle.std.proofs.lemmas.Bool.{le-ltb}
 use Rattle.std.proofs.lemmas.List.{drop_at, length-append}
-use Rattle.iso_boxes.specs.Walk.{Found, inside, walk, before}
+use Rattle.iso_boxes.specs.Walk.{walk}
 use Rattle.iso_boxes.specs.Writing.{boxed}
 use Rattle.iso_boxes.specs.Children.{each_knowing, first_read}
 use Rattle.prot_boxes.proofs.Again.{box_of}
 use Rattle.prot_boxes.specs.Sinf.{sinf_body}
-use Rattle.frag_boxes.specs.declared.records.Span.{Span}
 use Rattle.frag_boxes.specs.declared.records.SampleEntry.{SampleEntry}
 use Rattle.frag_boxes.specs.declared.records.MovieTrack.{MovieTrack}
 use Rattle.frag_boxes.specs.declared.table.Table.{Table}
@@ -19,8 +18,8 @@ use Rattle.frag_boxes.specs.Table.{is, behind, entry_box, sinf_part, protected_a
 use Rattle.frag_boxes.specs.Moov.{among, tkhd_at, trak_box, trak_part_at, saw, trak_at}
 use Rattle.seal_media.specs.declared.plan.SealPlan.{SealPlan}
 use Rattle.seal_media.specs.Layout.{sinf_of, tkhd_body, encv_body, stsd_body, stsz_body, stbl_body, mdia_body, trak_body}
-use Rattle.seal_media.proofs.BackStands.{Stands, stands_left, stands_right, stands_at, stands_body, stands_next, stands_fits}
-use Rattle.seal_media.proofs.BackWalk.{end, one_box, reads_on, reads_last, reads_only}
+use Rattle.seal_media.proofs.BackStands.{Stands, stands_left, stands_right, stands_body, stands_next, stands_fits}
+use Rattle.seal_media.proofs.BackWalk.{one_box, reads_on, reads_last, reads_only}
 use Rattle.seal_media.proofs.BackFields.{tkhd_again, stsz_again, stsd_again}
 
 -- the boxes behind fields

@@ -1,14 +1,12 @@
 -- The file of sealed media is read, box after box at the top level, as those media.
-use Rattle.std.proofs.Common.{◌≡◌, ◌⊎◌, inl, inr, ℕ, suc, ◌+◌, ◌-◌, ◌*◌, ◌/◌, ◌%◌, ◌^◌, ◌<◌, ◌≤◌, Bool, true, false, List, [], ◌∷◌, ◌++◌, length, take, map, codes, Option, Some, None, Result, Ok, Err, refl, sym, ap, subst, ◌∙◌, arith, append_assoc, append-nil, length-append}
+use Rattle.std.proofs.Common.{◌≡◌, inl, inr, ℕ, ◌+◌, ◌*◌, ◌/◌, ◌%◌, ◌^◌, ◌<◌, ◌≤◌, true, false, List, [], ◌∷◌, ◌++◌, length, take, map, codes, Some, Ok, refl, sym, ap, subst, ◌∙◌, arith, append_assoc, append-nil, length-append}
 use Rattle.std.specs.Prelude.{◌==◌, bytes_eq}
 use Rattle.std.specs.List.{All, sum_by, flat_map}
-use Rattle.std.specs.Int.{w32, to_be_bytes}
 use Rattle.std.proofs.lemmas.Bool.{ne_eqb}
 use Rattle.std.proofs.lemmas.Bool.Decides.{eqb_tells}
 use Rattle.std.proofs.lemmas.List.{length-map}
-use Rattle.std.proofs.lemmas.List.Concat.{length-flat_map}
 use Rattle.std.proofs.lemmas.List.Sums.{sum_by-cons, sum_by_push}
-use Rattle.std.proofs.lemmas.List.Elements.{All-nil, All-cons, All-head, All-tail, All-weaker}
+use Rattle.std.proofs.lemmas.List.Elements.{All-nil, All-cons, All-head, All-tail}
 use Rattle.eme_types.specs.declared.sample.EncSample.{EncSample}
 use Rattle.eme_types.specs.declared.sample.Iv.{Iv}
 use Rattle.eme_types.specs.declared.sample.Iv.TheVariants.{Eight, Sixteen}
@@ -21,7 +19,7 @@ use Rattle.eme_types.specs.declared.media.Fragment.{Fragment}
 use Rattle.eme_types.specs.declared.media.Media.{Media}
 use Rattle.eme_types.specs.declared.limits.TheConstants.{MAX_SAMPLES, MAX_SAMPLE_BYTES}
 use Rattle.eme_types.specs.Fed.{is_among, are_distinct, part_track, part_samples, part_bytes, sample_bytes, fragment_samples, fragment_bytes}
-use Rattle.iso_boxes.specs.Walk.{Found, walk}
+use Rattle.iso_boxes.specs.Walk.{walk}
 use Rattle.iso_boxes.specs.Writing.{boxed}
 use Rattle.iso_boxes.specs.Children.{all_knowing}
 use Rattle.prot_boxes.proofs.Again.{box_of, boxed_length}
@@ -32,19 +30,18 @@ use Rattle.track_media.specs.declared.top.KnownMovie.{KnownMovie}
 use Rattle.track_media.specs.declared.top.TopPart.{TopPart}
 use Rattle.track_media.specs.declared.top.TopPart.TheVariants as part
 use Rattle.track_media.specs.Refusals.{header_fault}
-use Rattle.track_media.specs.Mp4.{fragment_at, top_box, top_part_at, movie_in, fragments_in, room_behind, seen_from, with_first, media_of_parts, followed_by, mp4_media}
+use Rattle.track_media.specs.Mp4.{fragment_at, top_box, top_part_at, movie_in, fragments_in, room_behind, seen_from, with_first, followed_by, mp4_media}
 use Rattle.track_media.specs.File.{header, media_of}
-use Rattle.track_media.proofs.TopParts.{more_fragments, fragments_end}
+use Rattle.track_media.proofs.TopParts.{fragments_end}
 use Rattle.seal_media.specs.declared.plan.SealPlan.{SealPlan}
 use Rattle.seal_media.specs.Sealed.{init_of}
 use Rattle.seal_media.specs.Lengths.{entry_length, traf_length, moof_length}
-use Rattle.seal_media.specs.Layout.{own_iv, item_of, traf_body, traf_box, traf_boxes, moof_body, part_data, mdat_body, part_boxes, fragment_boxes, moov_body, sealed_file}
+use Rattle.seal_media.specs.Layout.{own_iv, item_of, traf_box, traf_boxes, moof_body, part_data, mdat_body, fragment_boxes, moov_body, sealed_file}
 use Rattle.seal_media.proofs.LengthLemmas.{traf_size}
-use Rattle.seal_media.proofs.BackStands.{Stands, stands_whole, stands_at, stands_left, stands_right, stands_body, stands_next}
+use Rattle.seal_media.proofs.BackStands.{Stands, stands_whole, stands_at, stands_left, stands_body, stands_next}
 use Rattle.seal_media.proofs.BackWalk.{reads_end, reads_on}
 use Rattle.seal_media.proofs.BackProtection.{known_read, kept_movie, movie_again, track_is_known, tracks_are, inits_again}
-use Rattle.seal_media.proofs.BackMovie.{movie_read}
-use Rattle.seal_media.proofs.BackFragment.{PartFits, part_sizes, part_items, part_body, moof_read, moof_again}
+use Rattle.seal_media.proofs.BackFragment.{PartFits, part_sizes, part_items, part_body, moof_again}
 use Rattle.seal_media.proofs.BackLaying.{data_length}
 use Rattle.seal_media.proofs.BackSamples.{SuitsScheme, HasPlan, said_item}
 use Rattle.seal_media.proofs.BackResolved.{PartHasPlan, fragment_resolved}

@@ -1,9 +1,9 @@
 -- Boxes that were written one behind the other are read one after the other.
-use Rattle.std.proofs.Common.{◌≡◌, ℕ, ◌+◌, ◌^◌, ◌<◌, Bool, true, false, List, [], ◌∷◌, ◌++◌, length, Option, Some, None, Result, Ok, Err, refl, sym, ap, ◌∙◌, append-nil, arith}
+use Rattle.std.proofs.Common.{◌≡◌, ℕ, ◌+◌, ◌^◌, ◌<◌, Bool, true, false, List, [], ◌∷◌, ◌++◌, length, Some, None, Result, Ok, Err, refl, ap, ◌∙◌, append-nil}
 use Rattle.iso_boxes.specs.declared.walk.BoxFault.{BoxFault}
-use Rattle.iso_boxes.specs.Walk.{Found, Walked, before, inside, boxes_left, walk, walk_of}
+use Rattle.iso_boxes.specs.Walk.{Found, Walked, before, boxes_left, walk, walk_of}
 use Rattle.iso_boxes.specs.Writing.{boxed}
-use Rattle.iso_boxes.specs.Children.{◌>>=◌, each_knowing, all_knowing, first_read, ended, if_any}
+use Rattle.iso_boxes.specs.Children.{◌>>=◌, each_knowing, all_knowing, first_read, ended}
 use Rattle.iso_boxes.proofs.WrittenAgain.{written_again}
 use Rattle.prot_boxes.proofs.Again.{box_of}
 use Rattle.seal_media.proofs.BackStands.{Stands, stands_left, stands_fits}

@@ -1,6 +1,6 @@
 -- What is sealed is read back: the file of clear media that may be fed is as long as its length says, and is read as those media, sealed.
-use Rattle.std.proofs.Common.{◌≡◌, ℕ, ◌+◌, ◌-◌, ◌*◌, ◌^◌, ◌<◌, ◌≤◌, Bool, true, false, List, [], ◌∷◌, ◌++◌, length, map, codes, Option, Some, None, Result, Ok, refl, sym, ap, subst, ◌∙◌, arith, length-append}
-use Rattle.std.specs.Prelude.{◌==◌, not, min}
+use Rattle.std.proofs.Common.{◌≡◌, ℕ, ◌+◌, ◌^◌, ◌<◌, ◌≤◌, true, List, [], ◌∷◌, length, map, codes, Ok, refl, sym, ap, subst, ◌∙◌, arith, length-append}
+use Rattle.std.specs.Prelude.{◌==◌}
 use Rattle.std.specs.List.{All, sum_by, flat_map, list_all}
 use Rattle.std.proofs.lemmas.Bool.{and_parts, not-true, eqb-false}
 use Rattle.std.proofs.lemmas.List.Sums.{sum_by-cons}
@@ -12,15 +12,15 @@ use Rattle.eme_types.specs.declared.media.InitData.{InitData}
 use Rattle.eme_types.specs.declared.media.TrackPart.{TrackPart}
 use Rattle.eme_types.specs.declared.media.Fragment.{Fragment}
 use Rattle.eme_types.specs.declared.media.Media.{Media}
-use Rattle.eme_types.specs.declared.limits.TheConstants.{MAX_MEDIA_BYTES, MAX_SAMPLES, MAX_SAMPLE_BYTES}
+use Rattle.eme_types.specs.declared.limits.TheConstants.{MAX_MEDIA_BYTES}
 use Rattle.eme_types.specs.Fed.{is_among, are_distinct, are_known, is_joined, has_samples, part_track, part_samples, part_bytes, sample_bytes, fragment_samples, fragment_bytes, IsFed}
 use Rattle.iso_boxes.specs.Writing.{boxed}
 use Rattle.prot_boxes.proofs.Again.{boxed_length}
 use Rattle.track_media.specs.File.{media_of}
 use Rattle.seal_media.specs.declared.plan.SealPlan.{SealPlan}
 use Rattle.seal_media.specs.Sealed.{iv_of, pair_of, init_of, IsSealed, AreSealed, IsSealedPart, AreSealedParts, IsSealedFragment, AreSealedFragments, IsSealedMedia}
-use Rattle.seal_media.specs.Lengths.{entry_length, traf_length, moof_length, fragment_length, moov_length, sealed_length}
-use Rattle.seal_media.specs.Layout.{moof_body, mdat_body, part_boxes, fragment_boxes, moov_body, sealed_file}
+use Rattle.seal_media.specs.Lengths.{traf_length, fragment_length, moov_length, sealed_length}
+use Rattle.seal_media.specs.Layout.{moof_body, mdat_body, fragment_boxes, moov_body, sealed_file}
 use Rattle.seal_media.specs.Answers.{IsFileOf, IsReadAs}
 use Rattle.seal_media.proofs.LengthLemmas.{HasSixteen, moov_size}
 use Rattle.seal_media.proofs.BackSamples.{SuitsScheme, HasPlan}
