@@ -1,6 +1,6 @@
 -- Opening takes sealing back, byte by byte.
 use Rattle.std.proofs.Common.{◌≡◌, ℕ, zero, suc, ◌+◌, ◌-◌, ◌*◌, ◌/◌, ◌%◌, ◌<◌, ◌≤◌, Bool, true, false, List, [], ◌∷◌, length, get_or, take, drop, bit_xor, refl, sym, ap, ◌∙◌, arith, inl, inr, rules, length-take, length-drop, get_or-take, get_or-drop}
-use Rattle.std.specs.Prelude.{◌&&◌, if◌then◌else◌, min, nat_lt, Option, Some, None}
+use Rattle.std.specs.Prelude.{◌&&◌, if◌then◌else◌, min, nat_lt, Some}
 use Rattle.std.proofs.lemmas.Bool.{cases_lt, lt-ltb, le-ltb}
 use Rattle.std.proofs.lemmas.List.{drop-drop, get_or_past, take_all, places}
 use Rattle.std.proofs.lemmas.Slice.{between-put_mid}
@@ -21,14 +21,14 @@ use Rattle.ctr_cbc.specs.Blocks.{exclusive_or}
 use Rattle.ctr_cbc.specs.KeyStream.{stream_byte}
 use Rattle.ctr_cbc.proofs.BackLemmas.{opened_again}
 use Rattle.ctr_cbc.proofs.BlockLemmas.{byte_of_xor}
-use Rattle.pattern_map.specs.ByteClasses.{ByteClass, Clear, Protected, Block, is_protected, is_encrypted, rank, block_place, protected_class}
+use Rattle.pattern_map.specs.ByteClasses.{ByteClass, Clear, Block, is_protected, is_encrypted, rank, block_place, protected_class}
 use Rattle.pattern_map.proofs.SpotLemmas.{spot_clear, spot_part}
 use Rattle.pattern_map.proofs.CountLemmas.{count, count_more, count_same}
 use Rattle.pattern_map.proofs.BlockLemmas.{block_stands}
 use Rattle.sample_crypt.specs.Decryption.{iv_bytes, encrypted_block, chained_to, decryption_of}
-use Rattle.sample_crypt.proofs.Opening.{class_of, clear_byte}
+use Rattle.sample_crypt.proofs.Opening.{clear_byte}
 use Rattle.seal_media.specs.declared.plan.SealPlan.{SealPlan}
-use Rattle.seal_media.specs.Sealed.{clear_bytes, iv_of, sealed_protect}
+use Rattle.seal_media.specs.Sealed.{iv_of, sealed_protect}
 use Rattle.seal_media.specs.Views.{tenth, tenth_before, AreTenthsSealed, AreStreamed, IsPartSealed}
 
 -- a list whose every byte is opened to that of another

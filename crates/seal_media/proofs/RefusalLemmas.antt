@@ -1,8 +1,7 @@
 -- The first broken rule of media.
-use Rattle.std.proofs.Common.{◌≡◌, Bool, true, false, refl, sym, ◌∙◌}
-use Rattle.std.specs.Prelude.{nat_lt, List, Option, Some, None}
+use Rattle.std.proofs.Common.{◌≡◌, true, false, refl}
+use Rattle.std.specs.Prelude.{nat_lt, Some, None}
 use Rattle.eme_types.specs.declared.media.Media.{Media}
-use Rattle.eme_types.specs.declared.media.Fragment.{Fragment}
 use Rattle.eme_types.specs.declared.limits.TheConstants.{MAX_MEDIA_BYTES}
 use Rattle.seal_media.specs.declared.fault.SealFault.{SealFault}
 use Rattle.seal_media.specs.declared.fault.SealFault.TheVariants.{TooLarge}

@@ -1,5 +1,5 @@
 -- Sealed samples beside the clear ones.
-use Rattle.std.proofs.Common.{◌≡◌, ℕ, suc, ◌+◌, ◌-◌, ◌*◌, List, [], ◌∷◌, ◌++◌, length, map, flat_map, refl, sym, ap, ◌∙◌, arith, append_assoc, append-nil, take, drop, length-append}
+use Rattle.std.proofs.Common.{◌≡◌, ℕ, suc, ◌+◌, ◌-◌, ◌*◌, List, [], ◌∷◌, ◌++◌, length, map, refl, sym, ap, ◌∙◌, arith, append_assoc, append-nil, take, drop, length-append}
 use Rattle.std.proofs.lemmas.List.{take_at, drop_at, drop_all, take_all}
 use borrow.Rule.Slice.PartMut.{put_mid}
 use Rattle.std.specs.Prelude.{Result, Ok, Err, OnOk, codes}
@@ -12,12 +12,12 @@ use Rattle.eme_types.specs.declared.sample.EncSample.{EncSample}
 use Rattle.eme_types.specs.declared.media.InitData.{InitData}
 use Rattle.eme_types.specs.declared.media.TrackPart.{TrackPart}
 use Rattle.eme_types.specs.declared.media.Fragment.{Fragment}
-use Rattle.eme_types.specs.Fed.{sample_bytes, part_samples, part_bytes, fragment_samples, fragment_bytes}
+use Rattle.eme_types.specs.Fed.{sample_bytes, part_samples, part_bytes, fragment_samples}
 use Rattle.seal_media.specs.declared.plan.SealPlan.{SealPlan}
 use Rattle.seal_media.specs.Sealed.{IsSealed, AreSealed, IsSealedPart, AreSealedParts, IsSealedFragment, AreSealedFragments}
-use Rattle.seal_media.specs.Lengths.{entry_length, traf_length, moof_length, fragment_length}
-use Rattle.seal_media.specs.Layout.{item_of, traf_box, traf_boxes, moof_body, part_data, mdat_body, part_boxes}
-use Rattle.seal_media.specs.Views.{items_from, traf_at, trafs_at, HasParts, HasFragment}
+use Rattle.seal_media.specs.Lengths.{entry_length, traf_length, moof_length}
+use Rattle.seal_media.specs.Layout.{item_of, traf_boxes, moof_body, part_data, mdat_body}
+use Rattle.seal_media.specs.Views.{items_from, trafs_at, HasParts, HasFragment}
 
 -- ---- one more
 

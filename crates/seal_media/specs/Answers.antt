@@ -1,5 +1,5 @@
 -- What the call that seals media answers.
-use Rattle.std.specs.Prelude.{◌≡◌, ◌⊎◌, ℕ, List, Option, Some, Result, Ok}
+use Rattle.std.specs.Prelude.{◌≡◌, ◌⊎◌, ℕ, List, Some, Ok}
 use Rattle.eme_types.specs.declared.media.Media.{Media}
 use Rattle.track_media.specs.File.{media_of}
 use Rattle.seal_media.specs.declared.fault.SealFault.{SealFault}

@@ -1,10 +1,10 @@
 -- The file of sealed media: a movie without samples, and then a movie fragment and its data for each fragment (ISO/IEC 14496-12
 -- section 8.8). It has only the boxes and the fields that a reader of protected fragments asks for; what they leave open is 0.
-use Rattle.std.specs.Prelude.{◌≡◌, ℕ, ◌+◌, true, List, [], ◌∷◌, ◌++◌, length, map, replicate, flat_map, codes, Option, Some, None}
+use Rattle.std.specs.Prelude.{ℕ, ◌+◌, true, List, [], ◌∷◌, ◌++◌, length, map, replicate, flat_map, codes, Option, Some, None}
 use Rattle.std.specs.Int.{w32, to_be_bytes}
 use Rattle.eme_types.specs.declared.sample.EncSample.{EncSample}
 use Rattle.eme_types.specs.declared.sample.Iv.{Iv}
-use Rattle.eme_types.specs.declared.sample.Iv.TheVariants.{Eight, Sixteen}
+use Rattle.eme_types.specs.declared.sample.Iv.TheVariants.{Sixteen}
 use Rattle.eme_types.specs.declared.sample.Protect.{Protect}
 use Rattle.eme_types.specs.declared.sample.Scheme.{Scheme}
 use Rattle.eme_types.specs.declared.sample.Scheme.TheVariants.{Cenc, Cbcs}

@@ -1,13 +1,12 @@
 -- How long the boxes of sealed media are, in bytes. It hangs on the scheme, and on the number and the sizes of the samples.
 use Rattle.std.specs.Prelude.{ℕ, ◌+◌, ◌*◌, List, length}
 use Rattle.std.specs.List.{sum_by}
-use Rattle.eme_types.specs.declared.sample.EncSample.{EncSample}
 use Rattle.eme_types.specs.declared.sample.Scheme.{Scheme}
 use Rattle.eme_types.specs.declared.sample.Scheme.TheVariants.{Cenc, Cbcs}
 use Rattle.eme_types.specs.declared.media.TrackPart.{TrackPart}
 use Rattle.eme_types.specs.declared.media.Fragment.{Fragment}
 use Rattle.eme_types.specs.declared.media.Media.{Media}
-use Rattle.eme_types.specs.Fed.{part_samples, part_bytes, fragment_bytes}
+use Rattle.eme_types.specs.Fed.{part_samples, fragment_bytes}
 
 -- the trak of a track, and its trex of 32
 abbrev pub track_length : Scheme → ℕ

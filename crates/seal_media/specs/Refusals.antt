@@ -1,5 +1,5 @@
 -- Why media are not sealed: the first of these rules that they break.
-use Rattle.std.specs.Prelude.{◌≡◌, ◌⊎◌, ℕ, ◌+◌, ◌-◌, ◌^◌, ◌==◌, min, not, Bool, nat_lt, List, [], ◌∷◌, length, Option, Some, None, is_some, if◌then◌else◌}
+use Rattle.std.specs.Prelude.{ℕ, ◌+◌, ◌-◌, ◌^◌, ◌==◌, min, Bool, nat_lt, List, [], ◌∷◌, length, Option, Some, None, is_some, if◌then◌else◌}
 use Rattle.std.specs.List.{list_any}
 use Rattle.eme_types.specs.declared.sample.EncSample.{EncSample}
 use Rattle.eme_types.specs.declared.media.TrackPart.{TrackPart}
@@ -7,7 +7,7 @@ use Rattle.eme_types.specs.declared.media.Fragment.{Fragment}
 use Rattle.eme_types.specs.declared.media.Media.{Media}
 use Rattle.eme_types.specs.declared.limits.TheConstants.{MAX_MEDIA_BYTES}
 use Rattle.seal_media.specs.declared.fault.SealFault.{SealFault}
-use Rattle.seal_media.specs.declared.fault.SealFault.TheVariants.{HasInit, Protected, TooLarge, OutOfMemory}
+use Rattle.seal_media.specs.declared.fault.SealFault.TheVariants.{HasInit, Protected, TooLarge}
 use Rattle.seal_media.specs.declared.plan.SealPlan.{SealPlan}
 use Rattle.seal_media.specs.Lengths.{sealed_length}
 

@@ -1,4 +1,4 @@
-use Rattle.std.proofs.Common.{◌≡◌, ◌-◌, length, drop, refl, arith, length-drop}
+use Rattle.std.proofs.Common.{◌-◌, length, drop, refl, arith, length-drop}
 use Rattle.std.proofs.lemmas.List.{take_all}
 use Rattle.seal_media.proofs.OpeningLemmas.{sealed_opens}
 use Rattle.seal_media.proofs.cipher.seal_bytes.Goals as goal

@@ -1,4 +1,4 @@
-use Rattle.std.proofs.Common.{◌≡◌, ℕ, ◌*◌, ◌%◌, ◌<◌, ◌≤◌, ◌⊎◌, drop, length, get_or}
+use Rattle.std.proofs.Common.{◌≡◌, ℕ, ◌*◌, ◌%◌, ◌<◌, ◌≤◌, ◌⊎◌, drop, get_or}
 use Rattle.aes128.specs.Cipher.{cipher}
 use Rattle.ctr_cbc.specs.Blocks.{exclusive_or}
 use Rattle.seal_media.specs.Views.{tenth, tenth_before}

@@ -1,4 +1,4 @@
-use Rattle.std.proofs.Common.{◌≡◌, ◌+◌, ◌++◌, List, ℕ, length, arith, ◌∙◌, ap, sym, refl}
+use Rattle.std.proofs.Common.{◌≡◌, ◌+◌, ◌++◌, List, ℕ, ◌∙◌, ap}
 use Rattle.std.specs.Prelude.{codes, OnOk}
 use Rattle.seal_media.specs.Views.{HasParts}
 use Rattle.std.specs.Int.{w32, to_be_bytes}

@@ -1,4 +1,4 @@
-use Rattle.std.proofs.Common.{◌≡◌, ◌+◌, [], ◌∷◌, take}
+use Rattle.std.proofs.Common.{◌≡◌, [], ◌∷◌, take}
 use Rattle.std.specs.List.{sum_by}
 use Rattle.eme_types.specs.Fed.{fragment_samples}
 use Rattle.seal_media.specs.Sealed.{init_of}

@@ -1,4 +1,4 @@
-use Rattle.std.proofs.Common.{◌≡◌, ◌-◌, ◌++◌, List, length, take, drop, refl, ap, ◌∙◌, arith, rules, length-append}
+use Rattle.std.proofs.Common.{◌≡◌, ◌++◌, length, refl, ap, ◌∙◌, rules}
 use Rattle.std.specs.Prelude.{Some}
 use Rattle.seal_media.specs.Sealed.{sealed_protect}
 use Rattle.seal_media.proofs.SealedLemmas.{written, was_there}

@@ -1,5 +1,4 @@
 use Rattle.std.proofs.Common.{◌≡◌, ◌+◌, ◌++◌, List, ℕ, [], ◌∷◌, length, take, arith, length-take, ◌∙◌, ap, sym}
-use Rattle.std.specs.Prelude.{min}
 use Rattle.std.proofs.lemmas.List.{take_more, flat_map_more}
 use Rattle.eme_types.specs.declared.sample.EncSample.{EncSample}
 use Rattle.seal_media.proofs.SealedLemmas.{one_more}

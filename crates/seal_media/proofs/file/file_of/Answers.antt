@@ -1,4 +1,4 @@
-use Rattle.std.proofs.Common.{◌≡◌, ◌++◌, List, ℕ, [], ◌∙◌, ap, sym, refl}
+use Rattle.std.proofs.Common.{◌≡◌, ◌∙◌, refl}
 use Rattle.std.specs.Prelude.{codes}
 use Rattle.iso_boxes.specs.Writing.{boxed}
 use Rattle.seal_media.specs.Layout.{moov_body}

@@ -1,4 +1,4 @@
-use Rattle.std.proofs.Common.{◌≡◌, ◌<◌, ◌≤◌, ◌^◌, length, ap, sym, ◌∙◌, inr, rules}
+use Rattle.std.proofs.Common.{◌≤◌, length, ap, sym, ◌∙◌, inr, rules}
 use Rattle.eme_types.specs.declared.limits.TheConstants.{MAX_MEDIA_BYTES}
 use Rattle.std.proofs.lemmas.Bool.{ltb-false}
 use Rattle.seal_media.specs.Lengths.{sealed_length}

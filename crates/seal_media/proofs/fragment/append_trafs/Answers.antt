@@ -1,4 +1,4 @@
-use Rattle.std.proofs.Common.{arith, length, ap, ◌∙◌, ◌≡◌, ◌+◌, ◌≤◌, rules}
+use Rattle.std.proofs.Common.{arith, length, ap, ◌∙◌, ◌≤◌}
 use Rattle.std.proofs.lemmas.List.Sums.{get_or-le-sum_by}
 use Rattle.std.specs.List.{sum_by}
 use Rattle.seal_media.specs.Lengths.{traf_length}
