@@ -111,3 +111,14 @@ module _ (old mid last : ShelfState) (names : Names) (first : LeavesShelf old mi
       (λ w. record { media = media; history = played.history; play = play; written = rw (played.files_are, played.summary_is) at w })
       (λ s. record { media = media; history = played.history; play = play; stopped = rw (played.files_are, played.summary_is) at s })
       r ok err cause
+
+-- the file by its name and its text
+pub file_ends : (old mid new : ShelfState) (names : SealNames) (file : FileText) (r : Result Unit ShelfFault) → LeavesShelf old mid → file.name ≡ names.out → IsSealing old names file.text
+    → OnOk r (FilesSoFar mid new (file ∷ []) 1) → OnErr r (StopsAtStart mid new (file ∷ []) ⊎ StopsInText mid new (file ∷ []))
+    → WritesCause mid new r → EndSays (writing_end r) (Seal names) old new
+file_ends old mid new names file r kept named is ok err cause =
+    let same : file ∷ [] ≡ sealed_files names file.text = ap (λ (n : List ℕ). (let f : FileText = record { name = n; text = file.text } in f) ∷ []) named in
+    seal_ends old mid new names file.text r kept is
+    (subst (λ (fs : List FileText). OnOk r (FilesSoFar mid new fs 1)) same ok)
+    (subst (λ (fs : List FileText). OnErr r (StopsAtStart mid new fs ⊎ StopsInText mid new fs)) same err)
+    cause
