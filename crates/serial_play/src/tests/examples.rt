@@ -25,7 +25,8 @@ pub const ACCESS: &[u8] = br#"EMES 1
 0 access org.w3.clearkey text:[{"videoCapabilities":[{"contentType":"video/mp4; codecs=\"xyz1\""}]},{"initDataTypes":["webm","cenc"],"videoCapabilities":[{"contentType":"video/mp4; codecs=\"avc1.42E01E\""}]}]
 "#;
 
-pub const ACCESS_GIVES: &[u8] = br#"promise 1 resolved {"label":"","initDataTypes":["cenc"],"audioCapabilities":[],"videoCapabilities":[{"contentType":"video/mp4; codecs=\"avc1.42E01E\"","robustness":""}],"distinctiveIdentifier":"not-allowed","persistentState":"not-allowed","sessionTypes":["temporary"]}
+pub const ACCESS_GIVES: &[u8] =
+    br#"promise 1 resolved {"label":"","initDataTypes":["cenc"],"audioCapabilities":[],"videoCapabilities":[{"contentType":"video/mp4; codecs=\"avc1.42E01E\"","robustness":""}],"distinctiveIdentifier":"not-allowed","persistentState":"not-allowed","sessionTypes":["temporary"]}
 "#;
 
 pub const ACCESS_REFUSED: &[u8] = br#"EMES 1
@@ -93,7 +94,8 @@ pub const CLOSE_AND_REOPEN: &[u8] = br#"EMES 1
 0 settle
 "#;
 
-pub const CLOSE_AND_REOPEN_GIVES: &[u8] = br#"track 1 4f70656e6564206279207468652066697273742073657373696f6e2e4f70656e656420627920746865207365636f6e642073657373696f6e2e
+pub const CLOSE_AND_REOPEN_GIVES: &[u8] =
+    br#"track 1 4f70656e6564206279207468652066697273742073657373696f6e2e4f70656e656420627920746865207365636f6e642073657373696f6e2e
 promise 1 resolved
 promise 2 resolved
 promise 3 resolved
@@ -161,7 +163,8 @@ pub const EXPIRY: &[u8] = br#"EMES 1
 0 settle
 "#;
 
-pub const EXPIRY_GIVES: &[u8] = br#"track 1 53686f776e206265666f726520746865206c6963656e636520656e64732e53686f776e206166746572206974207761732072656e657765642e
+pub const EXPIRY_GIVES: &[u8] =
+    br#"track 1 53686f776e206265666f726520746865206c6963656e636520656e64732e53686f776e206166746572206974207761732072656e657765642e
 promise 1 resolved
 promise 2 resolved
 promise 3 resolved
@@ -193,7 +196,8 @@ pub const KEY_ROTATION: &[u8] = br#"EMES 1
 0 settle
 "#;
 
-pub const KEY_ROTATION_GIVES: &[u8] = br#"track 1 546865206669727374206b6579206f70656e7320746869732073616d706c652e416e642074686973206f6e652e546865207365636f6e64206b6579206f70656e7320746869732073616d706c652c6120636c6561722073616d706c6520666f6c6c6f77732069742c616e642074686973206f6e6520656e64732074686520747261636b2e
+pub const KEY_ROTATION_GIVES: &[u8] =
+    br#"track 1 546865206669727374206b6579206f70656e7320746869732073616d706c652e416e642074686973206f6e652e546865207365636f6e64206b6579206f70656e7320746869732073616d706c652c6120636c6561722073616d706c6520666f6c6c6f77732069742c616e642074686973206f6e6520656e64732074686520747261636b2e
 promise 1 resolved
 promise 2 resolved
 promise 3 resolved
@@ -286,7 +290,8 @@ pub const TWO_SESSIONS: &[u8] = br#"EMES 1
 0 settle
 "#;
 
-pub const TWO_SESSIONS_GIVES: &[u8] = br#"track 1 566964656f20756e646572207468652066697273742073657373696f6e2e566964656f20756e64657220746865207365636f6e642073657373696f6e2e
+pub const TWO_SESSIONS_GIVES: &[u8] =
+    br#"track 1 566964656f20756e646572207468652066697273742073657373696f6e2e566964656f20756e64657220746865207365636f6e642073657373696f6e2e
 track 2 536f756e6420756e64657220746865207365636f6e642073657373696f6e2c20656e6372797074656420696e2061207061747465726e206f6620313a32206f76657220626c6f636b732e4d6f726520736f756e6420756e6465722069742c20696e2077686f6c6520626c6f636b732c20696e20746865207061747465726e20303a302e2e2e2e2e2e2e436c65617220736f756e642e
 promise 1 resolved
 promise 2 resolved

@@ -91,7 +91,8 @@ pub const SECOND_KEY: &[u8] = br#"EMES 1
 0 update a text:{"keys":[{"kty":"oct","kid":"EBESExQVFhcYGRobHB0eHw","k":"AAECAwQFBgcICQoLDA0ODw"}]}
 "#;
 
-pub const ALL_OUT: &[u8] = b"track 1 69c4e0d86a7b0430d8cdb78070b4c55a6bc1bee22e409f96e93d7e117393172a
+pub const ALL_OUT: &[u8] =
+    b"track 1 69c4e0d86a7b0430d8cdb78070b4c55a6bc1bee22e409f96e93d7e117393172a
 track 2 6bc1bee22e409f96e93d7e117393172a
 promise 1 resolved
 promise 2 resolved
@@ -121,7 +122,8 @@ pub const OTHER_KEY: &[u8] = br#"EMES 1
 0 update a text:{"keys":[{"kty":"oct","kid":"EBESExQVFhcYGRobHB0eHw","k":"AAECAwQFBgcICQoLDA0ODw"}]}
 "#;
 
-pub const OTHER_OUT: &[u8] = b"track 1 69c4e0d86a7b0430d8cdb78070b4c55ae1eaa6798272d26e8cbeb663aa1b1b63
+pub const OTHER_OUT: &[u8] =
+    b"track 1 69c4e0d86a7b0430d8cdb78070b4c55ae1eaa6798272d26e8cbeb663aa1b1b63
 track 2 6bc1bee22e409f96e93d7e117393172a
 promise 1 resolved
 promise 2 resolved
@@ -146,7 +148,8 @@ pub const KEY_AGAIN: &[u8] = br#"EMES 1
 0 update a text:{"keys":[{"kty":"oct","kid":"EBESExQVFhcYGRobHB0eHw","k":"AAECAwQFBgcICQoLDA0ODw"}]}
 "#;
 
-pub const AGAIN_OUT: &[u8] = b"track 1 69c4e0d86a7b0430d8cdb78070b4c55a6bc1bee22e409f96e93d7e117393172a
+pub const AGAIN_OUT: &[u8] =
+    b"track 1 69c4e0d86a7b0430d8cdb78070b4c55a6bc1bee22e409f96e93d7e117393172a
 track 2 6bc1bee22e409f96e93d7e117393172a
 promise 1 resolved
 promise 2 resolved
@@ -204,7 +207,8 @@ pub const TWO_HOLDERS: &[u8] = br#"EMES 1
 0 update b text:{"keys":[{"kty":"oct","kid":"EBESExQVFhcYGRobHB0eHw","k":"AAECAwQFBgcICQoLDA0ODw"}]}
 "#;
 
-pub const HOLDERS_OUT: &[u8] = b"track 1 69c4e0d86a7b0430d8cdb78070b4c55a6bc1bee22e409f96e93d7e117393172a
+pub const HOLDERS_OUT: &[u8] =
+    b"track 1 69c4e0d86a7b0430d8cdb78070b4c55a6bc1bee22e409f96e93d7e117393172a
 track 2 6bc1bee22e409f96e93d7e117393172a
 promise 1 resolved
 promise 2 resolved
@@ -266,7 +270,8 @@ sample 1 cenc 101112131415161718191a1b1c1d1e1f f0f1f2f3f4f5f6f7f8f9fafbfcfdfeff 
 "#;
 
 /// The second sample under the key of session a, which the serial play picks.
-pub const BY_THE_FIRST: &[u8] = b"track 1 6bc1bee22e409f96e93d7e117393172a6f18202a950fe42f8b661d591fcd6b3e
+pub const BY_THE_FIRST: &[u8] =
+    b"track 1 6bc1bee22e409f96e93d7e117393172a6f18202a950fe42f8b661d591fcd6b3e
 promise 1 resolved
 promise 2 resolved
 promise 3 resolved
@@ -277,7 +282,8 @@ promise 7 resolved
 ";
 
 /// And under that of session b, where it was claimed before session a had one.
-pub const BY_THE_SECOND: &[u8] = b"track 1 6bc1bee22e409f96e93d7e117393172ae1eaa6798272d26e8cbeb663aa1b1b63
+pub const BY_THE_SECOND: &[u8] =
+    b"track 1 6bc1bee22e409f96e93d7e117393172ae1eaa6798272d26e8cbeb663aa1b1b63
 promise 1 resolved
 promise 2 resolved
 promise 3 resolved
