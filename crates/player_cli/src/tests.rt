@@ -339,7 +339,8 @@ fn no_word_is_no_command(rt: HostRuntime) {
 }
 
 // The block of CLEAR under cbcs with the key and the IV of NIST SP 800-38A, appendix F.2.1.
-const BLOCK: &[u8] = b"SMPL 1\ntrack 1\nfragment\nsample 1 clear 6bc1bee22e409f96e93d7e117393172a\n";
+const BLOCK: &[u8] =
+    b"SMPL 1\ntrack 1\nfragment\nsample 1 clear 6bc1bee22e409f96e93d7e117393172a\n";
 
 const CIPHERTEXT: [u8; 16] = [
     0x76, 0x49, 0xab, 0xac, 0x81, 0x19, 0xb2, 0x46, 0xce, 0xe9, 0x8e, 0x9b, 0x12, 0xe9, 0x19, 0x7d,
@@ -378,12 +379,21 @@ fn what_is_sealed_is_written(rt: HostRuntime) -> Result<(), Fail> {
         ("b", "0", 2, Outcome::Done, Held::Whole),
         ("b", "20", 2, Outcome::Done, Held::Whole),
         ("b", "0", 1, Outcome::WriteFault, Held::Front(0)),
-        ("m", "0", 1, Outcome::SealRefused(SealKind::Protected), Held::Nothing),
+        (
+            "m",
+            "0",
+            1,
+            Outcome::SealRefused(SealKind::Protected),
+            Held::Nothing,
+        ),
     ] {
         let left = seal_with(&rt, rt.alloc(), media, lead, k)?;
         assert_eq!(rt; left, (outcome, held));
         let told = fault_text(rt.alloc(), &left.0)?;
-        assert_eq!(rt; told.as_slice() == b"seal: Protected\n".as_slice(), media == "m");
+        assert_eq!(rt;
+            told.as_slice() == b"seal: Protected\n".as_slice(),
+            media == "m"
+        );
     }
     assert_eq!(rt; status(&Outcome::SealRefused(SealKind::Protected)), 9);
     Ok(())
