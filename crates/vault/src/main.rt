@@ -4,7 +4,7 @@
 
 use eme_edge::HostShelf;
 use std::env::args;
-use std::fs::Files;
+use std::fs::{File, Files};
 use std::io;
 use std::io::ErrorKind;
 use std::process::ExitCode;
@@ -22,7 +22,7 @@ fn words<R: Env + AllocGlobal>(rt: &R) -> io::Result<Vec<String>> {
 }
 
 /// The first word names the file; the others say what to do with its vault.
-fn run<R: Files + Print + AllocGlobal>(rt: &R, words: &[String]) -> VaultOutcome {
+fn run<R: Files<File = File> + Print + AllocGlobal>(rt: &R, words: &[String]) -> VaultOutcome {
     let place = 1;
     let Some((name, rest)) = words.split_first() else {
         let kind = UsageKind::MissingWord;

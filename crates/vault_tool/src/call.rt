@@ -30,8 +30,8 @@ pub fn call_vault<D: VaultDisk>(
         },
         VaultCall::Load { label } => match vault.load(label) {
             Ok(licence) => Ok(Some(licence)),
-            // It calls no device, so this does not come; its contract leaves it open.
-            Err(VaultFault::Disk) => Err(VaultFault::OutOfMemory),
+            // It makes no call of the disk.
+            Err(VaultFault::Disk) => unreachable!(),
             Err(fault) => Err(fault),
         },
         VaultCall::Release { label } => match vault.release(label) {
