@@ -350,7 +350,7 @@ const CIPHERTEXT: [u8; 16] = [
 const PLAN: &str =
     "cbcs 000102030405060708090a0b0c0d0e0f 2b7e151628aed2a6abf7158809cf4f3c 000102030405060708090a0b0c0d0e0f";
 
-// Seals the block with a lead, where the k-th append fails, and answers how the output ends.
+// Seals the block with a lead, where the k-th append fails and leaves half of its bytes, and answers how the output ends.
 fn seal_with<R: Threads + Wait + Sync>(
     rt: &R,
     alloc: Global,
@@ -378,7 +378,7 @@ fn what_is_sealed_is_written(rt: HostRuntime) -> Result<(), Fail> {
     for (media, lead, k, outcome, held) in [
         ("b", "0", 2, Outcome::Done, Held::Whole),
         ("b", "20", 2, Outcome::Done, Held::Whole),
-        ("b", "0", 1, Outcome::WriteFault, Held::Front(0)),
+        ("b", "0", 1, Outcome::WriteFault, Held::Front(239)),
         (
             "m",
             "0",
