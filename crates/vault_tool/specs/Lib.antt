@@ -1,9 +1,0 @@
-pub mod Words
-pub mod Calls
-pub mod Outcomes
-pub mod Licence
-pub mod Said
-pub mod Called
-pub mod Accepted
-pub mod Says
-pub mod Exact
