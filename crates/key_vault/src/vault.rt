@@ -1,9 +1,9 @@
 // A vault on a disk, and the calls that change it.
-ghost use Rattle.std.specs.Prelude.{◌≡◌, ◌≢◌, ◌<◌, ◌≤◌, ◌+◌, ◌^◌, [], ◌∷◌, ◌++◌, List, ℕ, length, false, IsTrue, IfOk, IfErr, OnOk, OnErr, IsOk};
+ghost use Rattle.std.specs.Prelude.{◌≡◌, ◌≢◌, ◌<◌, ◌≤◌, ◌+◌, ◌^◌, [], ◌∷◌, ◌++◌, List, ℕ, length, false, IsTrue, IfOk, IfErr, OnOk, OnErr, IsOk, IsErrOf};
 ghost use Rattle.vault_disk.specs.Disk.{DiskState};
 ghost use Rattle.key_vault.specs.declared.command.Command.{Command};
 ghost use Rattle.key_vault.specs.declared.command.Command.TheVariants.{Store, Release, Ack};
-ghost use Rattle.key_vault.specs.declared.fault.VaultFault.TheVariants.{MustReopen};
+ghost use Rattle.key_vault.specs.declared.fault.VaultFault.TheVariants.{MustReopen, Disk};
 ghost use Rattle.key_vault.specs.declared.limits.TheConstants.{MAX_VAULT_BYTES};
 ghost use Rattle.key_vault.specs.Bytes.{behind_gate};
 ghost use Rattle.key_vault.specs.Records.{kids_in};
@@ -59,6 +59,7 @@ impl<D: VaultDisk> KeyVault<D> {
     pub fn load(&self, label: &[u8]) -> Result<Bytes, VaultFault>
         ensures ok { IfOk result (λ licence. loaded self.now.records.items label.now ≡ Ok licence) }
         ensures answer { Answers self.now.must_reopen (loaded self.now.records.items label.now) result }
+        ensures no_disk { IsErrOf result Disk → ⊥ }
     {
         if self.must_reopen {
             return Err(VaultFault::MustReopen);

@@ -1,30 +1,28 @@
 // A disk that is a real file.
-ghost use Rattle.std.specs.Prelude.{◌≡◌, ◌≤◌, length, IfOk, Ok};
+ghost use Rattle.std.specs.Prelude.{◌≡◌, IfOk, Ok};
 ghost use Rattle.vault_disk.specs.Host.{Counts};
 
 use crate::disk::{DiskFailed, VaultDisk};
+use crate::locked::LockedFile;
 use std::alloc::AllocError;
-use std::fs::{Files, OpenFile, OpenOptions};
-use std::io::{ErrorKind, Read, Seek, SeekFrom, Write};
-use std::path::Path;
-use std::{fs, io};
+use std::fs::{File, Files};
+use std::io;
 
-/// A real file. It tells nothing of its bytes. A missing file counts as empty, and only a write makes it.
+/// A real file. It tells nothing of its bytes. A missing file counts as empty, and only a write makes it. The disk has its file alone:
+/// from the first call that finds or makes it until the disk is gone, each call of another disk on that file fails.
 #[derive(Drop)]
 pub struct HostDisk<'a, R> {
-    rt: &'a R,
-    name: &'a str,
+    file: LockedFile<'a, R>,
     faults: u64,
 }
 
-impl<'a, R: Files> HostDisk<'a, R> {
-    /// The file of that name. No fault is counted yet.
+impl<'a, R: Files<File = File>> HostDisk<'a, R> {
+    /// The file of that name, which is not looked for before the first call. No fault is counted yet.
     pub fn new(rt: &'a R, name: &'a str) -> HostDisk<'a, R>
         ensures { result.faults ≡ 0 }
     {
         HostDisk {
-            rt,
-            name,
+            file: LockedFile::new(rt, name),
             faults: 0,
         }
     }
@@ -44,7 +42,7 @@ impl<'a, R: Files> HostDisk<'a, R> {
     }
 }
 
-impl<'a, R: Files> VaultDisk for HostDisk<'a, R> {
+impl<'a, R: Files<File = File>> VaultDisk for HostDisk<'a, R> {
     ghost use Rattle.vault_disk.specs.Host.{host_state};
 
     ghost state = { λ h. host_state h.faults };
@@ -64,103 +62,22 @@ impl<'a, R: Files> VaultDisk for HostDisk<'a, R> {
     }
 
     fn size(&mut self) -> Result<u64, DiskFailed> {
-        let answer = size_of(self.rt, self.name);
+        let answer = self.file.size();
         self.counted(answer)
     }
 
     fn read(&mut self, place: u64, buf: &mut [u8]) -> Result<usize, DiskFailed> {
-        let answer = read_at(self.rt, self.name, place, buf);
+        let answer = self.file.read_at(place, buf);
         self.counted(answer)
     }
 
     fn write_at(&mut self, place: u64, bytes: &[u8]) -> Result<(), DiskFailed> {
-        let answer = write_file(self.rt, self.name, place, bytes);
+        let answer = self.file.write_at(place, bytes);
         self.counted(answer)
     }
 
     fn sync(&mut self) -> Result<(), DiskFailed> {
-        let answer = sync_file(self.rt, self.name);
+        let answer = self.file.sync();
         self.counted(answer)
-    }
-}
-
-fn size_of<R: Files>(rt: &R, name: &str) -> io::Result<u64> {
-    match fs::metadata(rt, name) {
-        Ok(told) => Ok(told.len()),
-        Err(e) if e.kind() == ErrorKind::NotFound => Ok(0),
-        Err(e) => Err(e),
-    }
-}
-
-fn read_at<R: Files>(rt: &R, name: &str, place: u64, buf: &mut [u8]) -> io::Result<usize>
-    ensures { IfOk result (λ n. n ≤ length buf.new) }
-{
-    match fs::open(rt, name) {
-        Ok(mut file) => {
-            file.seek(SeekFrom::Start(place))?;
-            fill(&mut file, buf)
-        }
-        Err(e) if e.kind() == ErrorKind::NotFound => Ok(0),
-        Err(e) => Err(e),
-    }
-}
-
-/// Reads until the buffer is full or the input has ended.
-fn fill<T: Read>(input: &mut T, buf: &mut [u8]) -> io::Result<usize>
-    ensures { IfOk result (λ n. n ≤ length buf.new) }
-{
-    let mut filled = 0;
-    'reads: for _ in 0..u64::MAX {
-        if filled == buf.len() {
-            return Ok(filled);
-        }
-        match input.read(&mut buf[filled..]) {
-            Ok(0) => return Ok(filled),
-            Ok(count) => filled += count,
-            Err(e) => {
-                if e.kind() != ErrorKind::Interrupted {
-                    return Err(e);
-                }
-            }
-        }
-    }
-    Err(io::Error::from(ErrorKind::Interrupted))
-}
-
-/// Writes all of the bytes at the place. A file that this makes stands in its folder before the call ends.
-fn write_file<R: Files>(rt: &R, name: &str, place: u64, bytes: &[u8]) -> io::Result<()> {
-    let made = is_missing(rt, name)?;
-    let mut file = OpenOptions::new().write(true).create(true).open(rt, name)?;
-    file.seek(SeekFrom::Start(place))?;
-    file.write_all(bytes)?;
-    if made {
-        sync_folder(rt, name)?;
-    }
-    Ok(())
-}
-
-fn is_missing<R: Files>(rt: &R, name: &str) -> io::Result<bool> {
-    match fs::metadata(rt, name) {
-        Ok(_) => Ok(false),
-        Err(e) if e.kind() == ErrorKind::NotFound => Ok(true),
-        Err(e) => Err(e),
-    }
-}
-
-/// Writes the folder of a new file to the disk.
-fn sync_folder<R: Files>(rt: &R, name: &str) -> io::Result<()> {
-    let folder = match Path::new(name).parent() {
-        Some(folder) if !folder.as_str().is_empty() => folder.as_str(),
-        _ => ".",
-    };
-    let opened = fs::open(rt, folder)?;
-    opened.sync_all()
-}
-
-fn sync_file<R: Files>(rt: &R, name: &str) -> io::Result<()> {
-    match OpenOptions::new().write(true).open(rt, name) {
-        Ok(file) => file.sync_data(),
-        Err(e) if e.kind() == ErrorKind::NotFound => Ok(()),
-        Err(e) => Err(e),
     }
 }

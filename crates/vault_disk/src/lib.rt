@@ -5,6 +5,7 @@ mod bytes;
 mod calls;
 mod disk;
 mod host;
+mod locked;
 mod memory;
 mod step;
 #[cfg(test)]

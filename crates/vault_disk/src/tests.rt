@@ -60,3 +60,30 @@ fn a_disk_of_the_host_works_on_a_real_file(rt: HostRuntime) -> Result<(), Fail> 
     remove_file(&rt, name)?;
     Ok(())
 }
+
+#[test]
+fn a_disk_of_the_host_has_its_file_alone(rt: HostRuntime) -> Result<(), Fail> {
+    let folder = temp_dir(&rt)?;
+    let path = folder.as_path().join(rt.alloc(), "vault_disk_two_disks")?;
+    let name = path.as_path().to_str().ok_or("no text")?;
+    let _gone = remove_file(&rt, name);
+    let mut late = HostDisk::new(&rt, name);
+    let mut second = HostDisk::new(&rt, name);
+    let mut buf = [7; 3];
+    assert_eq!(rt; late.size(), Ok(0));
+    {
+        let mut first = HostDisk::new(&rt, name);
+        assert_eq!(rt; first.write_at(0, b"abc"), Ok(()));
+        assert_eq!(rt; second.size(), Err(DiskFailed));
+        assert_eq!(rt; second.read(0, &mut buf), Err(DiskFailed));
+        assert_eq!(rt; second.write_at(0, b"xyz"), Err(DiskFailed));
+        assert_eq!(rt; second.sync(), Err(DiskFailed));
+        assert_eq!(rt; &buf[..], b"\x07\x07\x07".as_slice());
+        assert_eq!(rt; first.sync(), Ok(()));
+    }
+    assert_eq!(rt; late.write_at(0, b"xyz"), Err(DiskFailed));
+    assert_eq!(rt; second.read(0, &mut buf), Ok(3));
+    assert_eq!(rt; &buf[..], b"abc".as_slice());
+    remove_file(&rt, name)?;
+    Ok(())
+}
